@@ -16,10 +16,10 @@ use Rattle.proof_stream.proofs.BinaryLines.{binary_lines}
 use Rattle.proof_stream.proofs.Files.{file_spoken}
 use Rattle.sby_terms.specs.declared.names.Answer.TheVariants.{Unsat}
 use Rattle.cert_judge.specs.BinaryCert.{IsRefutation, LineLeads, LinesLead}
-use Rattle.cert_judge.specs.Drup.{Comes, ComesTo}
+use Rattle.cert_judge.specs.Drup.{StreamFate, SayingsFate}
 use Rattle.cert_judge.specs.Fate.{Fate, Found}
 use Rattle.cert_judge.specs.KindCert.{IsClosedCert, IsOpenCert}
-use Rattle.cert_judge.specs.ProofFile.{BytesCome, LinesCome, tried}
+use Rattle.cert_judge.specs.ProofFile.{BytesFate, LinesFate, tried}
 use Rattle.cert_judge.specs.Values.{unnamed}
 use Rattle.cert_judge.specs.declared.stream.StreamKind.TheVariants.{ProofBinary}
 use Rattle.cert_judge.proofs.Deletions.{Clauses}
@@ -42,47 +42,47 @@ proof_append vars (l ∷ ls) ms a b (text, rest, e, n, len, k) h =
     (text, rest ++ b, ap (λ z. z ++ b) e ∙ ap (λ z. letter l.kind ∷ z) (append_assoc text (0 ∷ rest) b), n, len, proof_append vars ls ms rest b k h)
 
 module _ (C : Clauses) where
-  abbrev Come : Clauses → List Saying → Option Fate → Type 0
-  Come F ss fate = ComesTo C F unnamed ss fate
+  abbrev SayFate : Clauses → List Saying → Option Fate → Type 0
+  SayFate F ss fate = SayingsFate C F unnamed ss fate
 
   -- what comes after lines that lead from F to G
-  line_leads : (kind : LineKind) (c : List LitOf) (p : ℕ) (F H : Clauses) (ss : List Saying) (fate : Option Fate) → LineLeads kind c F H → Come H ss fate → Come F (line_said kind p c ∷ ss) fate
-  line_leads Clause c p F H ss fate (n, a, e) h = inr (inl (a, n, subst (λ K. Come K ss fate) e h))
+  line_leads : (kind : LineKind) (c : List LitOf) (p : ℕ) (F H : Clauses) (ss : List Saying) (fate : Option Fate) → LineLeads kind c F H → SayFate H ss fate → SayFate F (line_said kind p c ∷ ss) fate
+  line_leads Clause c p F H ss fate (n, a, e) h = inr (inl (a, n, subst (λ K. SayFate K ss fate) e h))
   line_leads Deletion c p F H ss fate d h = (H, d, h)
 
-  lines_lead : (ls : List ProofLine) (F G : Clauses) (ss ts : List Saying) (fate : Option Fate) → AreSaid ls ss → LinesLead ls F G → Come G ts fate → Come F (ss ++ ts) fate
-  lines_lead [] F G ss ts fate e g h = subst (λ (z : List Saying). Come F (z ++ ts) fate) (sym e) (subst (λ K. Come K ts fate) g h)
+  lines_lead : (ls : List ProofLine) (F G : Clauses) (ss ts : List Saying) (fate : Option Fate) → AreSaid ls ss → LinesLead ls F G → SayFate G ts fate → SayFate F (ss ++ ts) fate
+  lines_lead [] F G ss ts fate e g h = subst (λ (z : List Saying). SayFate F (z ++ ts) fate) (sym e) (subst (λ K. SayFate K ts fate) g h)
   lines_lead (l ∷ ls) F G ss ts fate (p, s, e, a) (H, k, g) h =
-      subst (λ (z : List Saying). Come F (z ++ ts) fate) (sym e) (line_leads l.kind l.lits p F H (s ++ ts) fate k (lines_lead ls H G s ts fate a g h))
+      subst (λ (z : List Saying). SayFate F (z ++ ts) fate) (sym e) (line_leads l.kind l.lits p F H (s ++ ts) fate k (lines_lead ls H G s ts fate a g h))
 
-  -- and back: lines that come to a certificate have a line of the empty clause, admitted, or lead to where the rest comes to it
+  -- and back: lines that are a certificate have a line of the empty clause, admitted, or lead to where the rest is one
   abbrev Refuted : Clauses → List ProofLine → Type 0
   Refuted F ls = (ms : List ProofLine) × (ns : List ProofLine) × (G : Clauses) × (ls ≡ ms ++ empty ∷ ns) × LinesLead ms F G × IsAdmitted G []
 
   abbrev Split : Clauses → List ProofLine → List Saying → Type 0
-  Split F ls ts = Refuted F ls ⊎ ((G : Clauses) × LinesLead ls F G × Come G ts (Some (Found Unsat)))
+  Split F ls ts = Refuted F ls ⊎ ((G : Clauses) × LinesLead ls F G × SayFate G ts (Some (Found Unsat)))
 
   later : (l : ProofLine) (ls : List ProofLine) (F H : Clauses) (ts : List Saying) → LineLeads l.kind l.lits F H → Split H ls ts → Split F (l ∷ ls) ts
   later l ls F H ts k (inl (ms, ns, G, e, g, a)) = inl (l ∷ ms, ns, G, ap (λ z. l ∷ z) e, (H, k, g), a)
   later l ls F H ts k (inr (G, g, h)) = inr (G, (H, k, g), h)
 
-  line_splits : (kind : LineKind) (c : List LitOf) (p : ℕ) (ls : List ProofLine) (F : Clauses) (ss ts : List Saying) → ((H : Clauses) → Come H ss (Some (Found Unsat)) → Split H ls ts)
-      → Come F (line_said kind p c ∷ ss) (Some (Found Unsat)) → Split F (record { kind = kind; lits = c } ∷ ls) ts
+  line_splits : (kind : LineKind) (c : List LitOf) (p : ℕ) (ls : List ProofLine) (F : Clauses) (ss ts : List Saying) → ((H : Clauses) → SayFate H ss (Some (Found Unsat)) → Split H ls ts)
+      → SayFate F (line_said kind p c ∷ ss) (Some (Found Unsat)) → Split F (record { kind = kind; lits = c } ∷ ls) ts
   line_splits Clause c p ls F ss ts again (inl (a, e, h)) = inl ([], ls, F, ap (λ z. record { kind = Clause; lits = z } ∷ ls) e, refl, subst (λ z. IsAdmitted F z) e a)
   line_splits Clause c p ls F ss ts again (inr (inl (a, n, h))) = later (record { kind = Clause; lits = c }) ls F (F ++ c ∷ []) ts (n, a, refl) (again (F ++ c ∷ []) h)
   line_splits Clause c p ls F ss ts again (inr (inr (a, e))) = absurd (let k = e in cc)
   line_splits Deletion c p ls F ss ts again (H, d, h) = later (record { kind = Deletion; lits = c }) ls F H ts d (again H h)
 
-  lines_split : (ls : List ProofLine) (F : Clauses) (ss ts : List Saying) → AreSaid ls ss → Come F (ss ++ ts) (Some (Found Unsat)) → Split F ls ts
-  lines_split [] F ss ts e h = inr (F, refl, subst (λ (z : List Saying). Come F (z ++ ts) (Some (Found Unsat))) e h)
+  lines_split : (ls : List ProofLine) (F : Clauses) (ss ts : List Saying) → AreSaid ls ss → SayFate F (ss ++ ts) (Some (Found Unsat)) → Split F ls ts
+  lines_split [] F ss ts e h = inr (F, refl, subst (λ (z : List Saying). SayFate F (z ++ ts) (Some (Found Unsat))) e h)
   lines_split (l ∷ ls) F ss ts (p, s, e, a) h =
-      line_splits l.kind l.lits p ls F (s ++ ts) ts (λ H k. lines_split ls H s ts a k) (subst (λ (z : List Saying). Come F (z ++ ts) (Some (Found Unsat))) e h)
+      line_splits l.kind l.lits p ls F (s ++ ts) ts (λ H k. lines_split ls H s ts a k) (subst (λ (z : List Saying). SayFate F (z ++ ts) (Some (Found Unsat))) e h)
 
   -- the empty clause
-  empty_found : (G : Clauses) (p : ℕ) (ts : List Saying) → IsAdmitted G [] → Come G (IsClause [] p ∷ ts) (Some (Found Unsat))
+  empty_found : (G : Clauses) (p : ℕ) (ts : List Saying) → IsAdmitted G [] → SayFate G (IsClause [] p ∷ ts) (Some (Found Unsat))
   empty_found G p ts a = inl (a, refl, refl)
 
-  last_admitted : (G : Clauses) (p : ℕ) → Come G (IsClause [] p ∷ []) (Some (Found Unsat)) → IsAdmitted G []
+  last_admitted : (G : Clauses) (p : ℕ) → SayFate G (IsClause [] p ∷ []) (Some (Found Unsat)) → IsAdmitted G []
   last_admitted G p (inl (a, e, h)) = a
   last_admitted G p (inr (inl (a, n, h))) = a
   last_admitted G p (inr (inr (a, e))) = absurd (let k = e in cc)
@@ -103,18 +103,18 @@ cut_lines vars (l ∷ ms) ns bytes (text, rest, e, n, len, h) =
 
 module _ (f : FormulaOf) where
   abbrev Finds : List Saying → Type 0
-  Finds ss = Comes f ss (Some (Found Unsat))
+  Finds ss = StreamFate f ss (Some (Found Unsat))
 
   abbrev says : Bool → List ℕ → List Saying
   says ended bytes = spoken ended (fresh Binary f.vars) bytes
 
   -- a file that its end completes
-  pub binary_open : (bytes : List ℕ) → IsRefutation f bytes → BytesCome Binary f true bytes (Some (Found Unsat))
+  pub binary_open : (bytes : List ℕ) → IsRefutation f bytes → BytesFate Binary f true bytes (Some (Found Unsat))
   binary_open bytes (ls, G, p, g, a) =
       let s = file_spoken Binary f.vars false bytes in
       let t = file_spoken Binary f.vars true bytes in
-      let n : Comes f (says false bytes) None =
-      subst (λ (z : List Saying). Comes f z None) (append-nil (says false bytes))
+      let n : StreamFate f (says false bytes) None =
+      subst (λ (z : List Saying). StreamFate f z None) (append-nil (says false bytes))
       (lines_lead f.clauses ls f.clauses G (says false bytes) [] None (subst (AreSaid ls) (sym s) (binary_says f.vars (length bytes) false ls bytes p)) g refl) in
       let k = lines_lead f.clauses ls f.clauses G (says true bytes) (IsClause [] (length bytes) ∷ []) (Some (Found Unsat)) (subst (AreSaid ls) (sym t) (binary_says f.vars (length bytes) true ls bytes p)) g
       (empty_found f.clauses G (length bytes) [] a) in
@@ -124,7 +124,7 @@ module _ (f : FormulaOf) where
   empty_line = ([], [], refl, refl, omega arith, refl)
 
   -- one with a line of the empty clause
-  pub binary_closed : (front : List ℕ) → IsRefutation f front → BytesCome Binary f false (front ++ 97 ∷ 0 ∷ []) (Some (Found Unsat))
+  pub binary_closed : (front : List ℕ) → IsRefutation f front → BytesFate Binary f false (front ++ 97 ∷ 0 ∷ []) (Some (Found Unsat))
   binary_closed front (ls, G, p, g, a) =
       let bytes : List ℕ = front ++ 97 ∷ 0 ∷ [] in
       let s = file_spoken Binary f.vars false bytes in
@@ -146,10 +146,10 @@ module _ (f : FormulaOf) where
       e ∙ ap (λ z. z ++ rest) k.2 ∙ append_assoc k.0 (97 ∷ 0 ∷ k.1) rest ∙ sym (append_assoc k.0 (97 ∷ 0 ∷ []) (k.1 ++ rest)) in
       (cert, k.1 ++ rest, whole, (refl, (k.0, refl, (ms, G, k.3, g, a))), tt)
 
-  nothing_found : (tail : List Saying) (G : Clauses) → ((kind : ParseFaultKind) × (byte : ℕ) × (tail ≡ bad kind byte)) → (more : List Saying) → ComesTo f.clauses G unnamed (tail ++ more) (Some (Found Unsat)) → ⊥
-  nothing_found tail G (kind, byte, e) more h = let k = subst (λ (z : List Saying). ComesTo f.clauses G unnamed (z ++ more) (Some (Found Unsat))) e h in cc
+  nothing_found : (tail : List Saying) (G : Clauses) → ((kind : ParseFaultKind) × (byte : ℕ) × (tail ≡ bad kind byte)) → (more : List Saying) → SayingsFate f.clauses G unnamed (tail ++ more) (Some (Found Unsat)) → ⊥
+  nothing_found tail G (kind, byte, e) more h = let k = subst (λ (z : List Saying). SayingsFate f.clauses G unnamed (z ++ more) (Some (Found Unsat))) e h in cc
 
-  pub binary_lines_cert : (bytes : List ℕ) → LinesCome Binary f bytes (Some (Found Unsat)) → Closed bytes
+  pub binary_lines_cert : (bytes : List ℕ) → LinesFate Binary f bytes (Some (Found Unsat)) → Closed bytes
   binary_lines_cert bytes (ss, s, h) = by (binary_lines f.vars false bytes ss s)
     where
       by : SaysLines f.vars false bytes ss → Closed bytes
@@ -157,8 +157,8 @@ module _ (f : FormulaOf) where
           elim (lines_split f.clauses k.lines f.clauses k.said k.tail k.told (subst Finds k.says h)) [
             | inl r ↦ closed_in bytes k.front k.rest k.lines k.are k.proof r
             | inr (G, g, t) ↦ absurd (elim k.ends [
-              | inl (e, r) ↦ let q = subst (λ (z : List Saying). ComesTo f.clauses G unnamed z (Some (Found Unsat))) e t in cc
-              | inr b ↦ nothing_found k.tail G b [] (subst (λ (z : List Saying). ComesTo f.clauses G unnamed z (Some (Found Unsat))) (sym (append-nil k.tail)) t)
+              | inl (e, r) ↦ let q = subst (λ (z : List Saying). SayingsFate f.clauses G unnamed z (Some (Found Unsat))) e t in cc
+              | inr b ↦ nothing_found k.tail G b [] (subst (λ (z : List Saying). SayingsFate f.clauses G unnamed z (Some (Found Unsat))) (sym (append-nil k.tail)) t)
             ])
           ]
 
@@ -170,13 +170,13 @@ module _ (f : FormulaOf) where
         | inr (G, g, t) ↦ elim k.ends [
           | inl (e, r) ↦
               let q : bytes ≡ k.front = k.are ∙ ap (λ z. k.front ++ z) (r refl) ∙ append-nil k.front in
-              let a = last_admitted f.clauses G (length bytes) (subst (λ (z : List Saying). ComesTo f.clauses G unnamed (z ++ last) (Some (Found Unsat))) e t) in
+              let a = last_admitted f.clauses G (length bytes) (subst (λ (z : List Saying). SayingsFate f.clauses G unnamed (z ++ last) (Some (Found Unsat))) e t) in
               inr (refl, (k.lines, G, subst (λ z. IsBinaryProof f.vars z k.lines) (sym q) k.proof, g, a))
           | inr b ↦ absurd (nothing_found k.tail G b last t)
         ]
       ]
 
-  pub binary_cert : (bytes : List ℕ) → BytesCome Binary f true bytes (Some (Found Unsat)) → Closed bytes ⊎ IsOpenCert ProofBinary f bytes Unsat
+  pub binary_cert : (bytes : List ℕ) → BytesFate Binary f true bytes (Some (Found Unsat)) → Closed bytes ⊎ IsOpenCert ProofBinary f bytes Unsat
   binary_cert bytes (inl h) = inl (binary_lines_cert bytes h)
   binary_cert bytes (inr (k, (ss, v, s, h, e))) =
-      end_cert bytes ss (binary_lines f.vars true bytes ss s) (subst (λ z. Comes f (tried (length bytes) ss) (Some z)) (found_at_end (length bytes) Unsat v e) h)
+      end_cert bytes ss (binary_lines f.vars true bytes ss s) (subst (λ z. StreamFate f (tried (length bytes) ss) (Some z)) (found_at_end (length bytes) Unsat v e) h)

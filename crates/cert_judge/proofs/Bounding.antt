@@ -1,4 +1,4 @@
--- What bytes come to, at most this many of them, whatever tells what they come to.
+-- The fate of bytes, at most this many of them, whatever tells it.
 use Rattle.std.proofs.Common.{◌≡◌, ◌⊎◌, ℕ, ◌-◌, ◌<◌, ◌≤◌, Bool, true, false, leb, List, ◌++◌, length, take, Option, Some, None, refl, sym, ◌∙◌, subst, inl, inr, arith}
 use Rattle.std.proofs.lemmas.Bool.{cases_Bool, leb-true, leb-false}
 use Rattle.std.proofs.lemmas.List.{length-append, take-append-le}
@@ -25,7 +25,7 @@ module _ (comes : Bool → List ℕ → Option Fate → Type 0) (most : ℕ) whe
   abbrev Within : List ℕ → Fate → Type 0
   Within bytes z = comes true bytes (Some z) ⊎ (comes true bytes None × (z ≡ Bad EarlyEnd (length bytes)))
 
-  -- a fate stays where what bytes come to does
+  -- a fate stays where that of the bytes does
   module _ (on : (bytes rest : List ℕ) (x : Fate) → comes false bytes (Some x) → comes false (bytes ++ rest) (Some x)) where
     pub stays_by : (bytes rest : List ℕ) (x : Fate) → FateSoFarBy comes bytes most (Some x) → FateSoFarBy comes (bytes ++ rest) most (Some x)
     stays_by bytes rest x h =
@@ -40,7 +40,7 @@ module _ (comes : Bool → List ℕ → Option Fate → Type 0) (most : ℕ) whe
           }
         ]
 
-  -- there is one where bytes come to one thing
+  -- there is one where bytes have one fate
   module _ (once : (ended : Bool) (bytes : List ℕ) (x y : Option Fate) → comes ended bytes x → comes ended bytes y → x ≡ y) where
     one_beyond : (bytes : List ℕ) (x y : Option Fate) → Beyond bytes x → Beyond bytes y → x ≡ y
     one_beyond bytes x y (inl (v, a, e)) (inl (w, b, g)) = e ∙ once false (take most bytes) (Some v) (Some w) a b ∙ sym g

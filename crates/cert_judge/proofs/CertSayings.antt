@@ -1,4 +1,4 @@
--- What sayings come to, part by part.
+-- The fate of sayings, part by part.
 use Rattle.std.proofs.Common.{◌⊎◌, ℕ, List, [], ◌∷◌, ◌++◌, Some, None, refl, inl, inr}
 use Rattle.cnf_form.specs.Cnf.{Assignment}
 use Rattle.cert_stream.specs.Telling.{Saying, IsClause, IsDelete, IsValue, IsValuesEnd, IsUnknown, IsFault}
@@ -6,14 +6,14 @@ use Rattle.cert_stream.specs.declared.mode.ParseFault.{ParseFault}
 use Rattle.proof_stream.specs.Lines.{up_to_fault}
 use Rattle.sby_terms.specs.declared.names.Answer.{Answer}
 use Rattle.sby_terms.specs.declared.names.Answer.TheVariants.{Unsat}
-use Rattle.cert_judge.specs.Drup.{ComesTo}
+use Rattle.cert_judge.specs.Drup.{SayingsFate}
 use Rattle.cert_judge.specs.Fate.{Fate, Found}
 use Rattle.cert_judge.specs.Values.{named}
 use Rattle.cert_judge.proofs.Deletions.{Clauses}
 
 module _ (C : Clauses) where
-  -- what all come to stands after the first of them, or these came to nothing yet
-  pub comes_cut : (F : Clauses) (x : Assignment) (ss more : List Saying) (y : Fate) → ComesTo C F x (ss ++ more) (Some y) → ComesTo C F x ss (Some y) ⊎ ComesTo C F x ss None
+  -- the fate of all is decided by the first of them, or these are undecided
+  pub comes_cut : (F : Clauses) (x : Assignment) (ss more : List Saying) (y : Fate) → SayingsFate C F x (ss ++ more) (Some y) → SayingsFate C F x ss (Some y) ⊎ SayingsFate C F x ss None
   comes_cut F x [] more y h = inr refl
   comes_cut F x (IsClause c p ∷ ss) more y (inl h) = inl (inl h)
   comes_cut F x (IsClause c p ∷ ss) more y (inr (inl (a, m, h))) = elim (comes_cut (F ++ c ∷ []) x ss more y h) [ inl k ↦ inl (inr (inl (a, m, k))) | inr k ↦ inr (inr (inl (a, m, k))) ]
@@ -25,7 +25,7 @@ module _ (C : Clauses) where
   comes_cut F x (IsFault f ∷ ss) more y h = inl h
 
   -- a fault is something
-  pub fault_some : (F : Clauses) (x : Assignment) (ss : List Saying) (f : ParseFault) → ComesTo C F x (ss ++ IsFault f ∷ []) None → ⊥
+  pub fault_some : (F : Clauses) (x : Assignment) (ss : List Saying) (f : ParseFault) → SayingsFate C F x (ss ++ IsFault f ∷ []) None → ⊥
   fault_some F x [] f h = let e = h in cc
   fault_some F x (IsClause c p ∷ ss) f (inl (a, m, e)) = let k = e in cc
   fault_some F x (IsClause c p ∷ ss) f (inr (inl (a, m, h))) = fault_some (F ++ c ∷ []) x ss f h
@@ -38,7 +38,7 @@ module _ (C : Clauses) where
   fault_some F x (IsFault g ∷ ss) f e = let k = e in cc
 
   -- a certificate is found before a fault
-  pub found_before_fault : (F : Clauses) (x : Assignment) (ss more : List Saying) (f : ParseFault) (a : Answer) → ComesTo C F x (up_to_fault (ss ++ IsFault f ∷ []) ++ more) (Some (Found a)) → ComesTo C F x ss (Some (Found a))
+  pub found_before_fault : (F : Clauses) (x : Assignment) (ss more : List Saying) (f : ParseFault) (a : Answer) → SayingsFate C F x (up_to_fault (ss ++ IsFault f ∷ []) ++ more) (Some (Found a)) → SayingsFate C F x ss (Some (Found a))
   found_before_fault F x [] more f a h = absurd (let e = h in cc)
   found_before_fault F x (IsClause c p ∷ ss) more f a (inl h) = inl h
   found_before_fault F x (IsClause c p ∷ ss) more f a (inr (inl (d, m, h))) = inr (inl (d, m, found_before_fault (F ++ c ∷ []) x ss more f a h))
@@ -50,7 +50,7 @@ module _ (C : Clauses) where
   found_before_fault F x (IsFault g ∷ ss) more f a h = h
 
   -- a last empty clause is admitted wherever it stands
-  pub last_moves : (F : Clauses) (x : Assignment) (ss : List Saying) (p q : ℕ) → ComesTo C F x (ss ++ IsClause [] p ∷ []) (Some (Found Unsat)) → ComesTo C F x (ss ++ IsClause [] q ∷ []) (Some (Found Unsat))
+  pub last_moves : (F : Clauses) (x : Assignment) (ss : List Saying) (p q : ℕ) → SayingsFate C F x (ss ++ IsClause [] p ∷ []) (Some (Found Unsat)) → SayingsFate C F x (ss ++ IsClause [] q ∷ []) (Some (Found Unsat))
   last_moves F x [] p q (inl h) = inl h
   last_moves F x [] p q (inr (inl (a, m, h))) = absurd (m refl)
   last_moves F x [] p q (inr (inr (a, e))) = absurd (let k = e in cc)

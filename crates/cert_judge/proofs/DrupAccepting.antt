@@ -17,16 +17,16 @@ use Rattle.sby_terms.specs.declared.names.Answer.{Answer}
 use Rattle.sby_terms.specs.declared.names.Answer.TheVariants.{Sat, Unsat}
 use Rattle.cert_judge.specs.Values.{named, named_from, unnamed}
 use Rattle.cert_judge.specs.Fate.{Found}
-use Rattle.cert_judge.specs.Drup.{Comes, ComesTo}
+use Rattle.cert_judge.specs.Drup.{StreamFate, SayingsFate}
 use Rattle.cert_judge.specs.Kinds.{FateOf}
 use Rattle.cert_judge.specs.declared.stream.StreamKind.TheVariants.{Drup}
 use Rattle.cert_judge.specs.DrupCert.{words, IsIdle, IsRemark, Writes, IsEnded, Leads, Names, IsCertOf}
 use Rattle.cert_judge.proofs.DrupLines.{texts, line_texts, AreDoneBut, but_rest, done_but, done_all, ends_at, done_front, done_last, writes_read}
-use Rattle.cert_judge.proofs.Valuing.{named_append}
+use Rattle.cert_judge.proofs.Naming.{names_found}
 
 module _ (vars : ℕ) (C : List (List LitOf)) (a : Answer) where
   abbrev Finds : List (List LitOf) → Assignment → List Saying → Type 0
-  Finds F x ss = ComesTo C F x ss (Some (Found a))
+  Finds F x ss = SayingsFate C F x ss (Some (Found a))
 
   -- the values of a line are named
   values_named : (F : List (List LitOf)) (x : Assignment) (lits : List LitOf) (ss : List Saying) → Finds F (named_from x lits) ss → Finds F x (flat_map (heard_says ValuesList) lits ++ ss)
@@ -192,35 +192,22 @@ module _ (vars : ℕ) (C : List (List LitOf)) (a : Answer) where
       let z = zero_last at t (let q : words t ≡ codes "0" ∷ [] = cc in q) in
       subst (λ (ss : List Saying). Finds G unnamed ss) (sym z.1) (inl (admitted, refl, ap (λ k. Some (Found k)) n))
 
+  remark_next : (at : ℕ) (t u : List ℕ) (ts : List (List ℕ)) (amid : Bool) → IsRemark (words t) → lines_say vars true amid at (t ∷ u ∷ ts) ≡ rest_says at t (u ∷ ts) amid
+  remark_next at t u ts amid r =
+      remark_line at t (fault_at at t) (rest_says at t (u ∷ ts) true) (rest_says at t (u ∷ ts) false) amid (words_from true at [] t) (subst IsRemark (sym (line_texts true at t)) r) ∙ same amid
+    where
+      same : (b : Bool) → cond b (rest_says at t (u ∷ ts) true) (rest_says at t (u ∷ ts) false) ≡ rest_says at t (u ∷ ts) b
+      same true = refl
+      same false = refl
+
   -- the lines of values that satisfy the clauses
   values_found : (G : List (List LitOf)) (amid : Bool) (x : Assignment) (at : ℕ) (ls : List (List ℕ)) (end : List (List (List ℕ))) (values : List LitOf) → a ≡ Sat → map words ls ≡ end
       → Names vars end values → Satisfies (named_from x values) C → Finds G x (lines_say vars true amid at ls)
-  values_found G amid x at ls [] values n e k s = absurd k
-  values_found G amid x at [] (ws ∷ end) values n e k s = cc
-  values_found G amid x at (t ∷ u ∷ ts) (ws ∷ []) values n e k s = cc
-  values_found G amid x at (t ∷ []) (ws ∷ vs ∷ end) values n e k s = cc
-  values_found G amid x at (t ∷ []) (ws ∷ []) values n e (rest, v, d) s =
-      let q : words t ≡ ws = cc in
-      subst (λ (ss : List Saying). Finds G x ss) (sym (values_last at t amid rest values (q ∙ v) d)) (values_named G x values (IsValuesEnd ∷ []) (inl (s, ap (λ k. Some (Found k)) n)))
-  values_found G amid x at (t ∷ u ∷ ts) (ws ∷ vs ∷ end) values n e k s =
-      let q : words t ≡ ws = cc in
-      let m : map words (u ∷ ts) ≡ vs ∷ end = cc in
-      line q k (λ b y values r p. values_found G b y (at + length t + 1) (u ∷ ts) (vs ∷ end) values n m r p)
-    where
-      same : (b : Bool) → Finds G x (rest_says at t (u ∷ ts) b) → Finds G x (cond b (rest_says at t (u ∷ ts) true) (rest_says at t (u ∷ ts) false))
-      same true h = h
-      same false h = h
+  values_found G amid x at ls end values n =
+      names_found vars C (Finds G) (lines_say vars true) (flat_map (heard_says ValuesList)) (IsValuesEnd ∷ []) (λ y s. inl (s, ap (λ k. Some (Found k)) n)) (values_named G) values_last remark_next
+      (λ o t u ts b. open_line o t (fault_at o t) (rest_says o t (u ∷ ts) true) (rest_says o t (u ∷ ts) false) b) amid x at ls end values
 
-      line : words t ≡ ws → Names vars (ws ∷ vs ∷ end) values
-          → ((b : Bool) (y : Assignment) (more : List LitOf) → Names vars (vs ∷ end) more → Satisfies (named_from y more) C → Finds G y (rest_says at t (u ∷ ts) b))
-          → Finds G x (lines_say vars true amid at (t ∷ u ∷ ts))
-      line q (inl (r, m)) h =
-          subst (λ (ss : List Saying). Finds G x ss) (sym (remark_line at t (fault_at at t) (rest_says at t (u ∷ ts) true) (rest_says at t (u ∷ ts) false) amid (words_from true at [] t) (subst IsRemark (sym (line_texts true at t ∙ q)) r))) (same amid (h amid x values m s))
-      line q (inr (us, c, b, v, k, l, e, m)) h =
-          let y = subst (λ i. Satisfies i C) (ap (named_from x) e ∙ named_append x c b) s in
-          subst (λ (ss : List Saying). Finds G x ss) (sym (open_line at t (fault_at at t) (rest_says at t (u ∷ ts) true) (rest_says at t (u ∷ ts) false) amid us c (q ∙ v) k l)) (values_named G x c (rest_says at t (u ∷ ts) true) (h true (named_from x c) b m y))
-
-cert_comes : (f : FormulaOf) (s : List ℕ) (a : Answer) → IsCertOf f s a → Comes f (sayings f.vars true s) (Some (Found a))
+cert_comes : (f : FormulaOf) (s : List ℕ) (a : Answer) → IsCertOf f s a → StreamFate f (sayings f.vars true s) (Some (Found a))
 cert_comes f s Unsat (proof, G, e, k, d) = proof_found f.vars f.clauses Unsat G (codes "0" ∷ []) [] (zero_found f.vars f.clauses Unsat G d refl) 0 f.clauses (lines_of s) proof e k
 cert_comes f s Sat (proof, [], G, values, e, k, n, m) = absurd n
 cert_comes f s Sat (proof, ws ∷ last, G, values, e, k, n, m) =

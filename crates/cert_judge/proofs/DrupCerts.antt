@@ -8,7 +8,7 @@ use Rattle.cert_stream.specs.Text.{Word, is_digit, literal_of, lines_of, words_f
 use Rattle.cert_stream.specs.Scan.{Scanned, Reads, Misfit, scan}
 use Rattle.cert_stream.specs.Words.{IsRead}
 use Rattle.cert_stream.specs.Telling.{Saying, IsClause, IsDelete, IsValuesEnd, IsUnknown}
-use Rattle.cert_stream.specs.Stream.{alone, bad, behind_says, ended_says, heard_says, is_unknown, line_says, lines_say, list_says, plain_says, sayings, status_says}
+use Rattle.cert_stream.specs.Stream.{alone, bad, after_says, ended_says, heard_says, is_unknown, line_says, lines_say, list_says, plain_says, sayings, status_says}
 use Rattle.cert_stream.specs.declared.mode.ListKind.{ListKind}
 use Rattle.cert_stream.specs.declared.mode.ListKind.TheVariants.{Clause as ClauseList, Deletion, Values as ValuesList}
 use Rattle.cert_stream.specs.declared.mode.ParseFaultKind.{ParseFaultKind}
@@ -21,7 +21,7 @@ use Rattle.sby_terms.specs.declared.names.Answer.{Answer}
 use Rattle.sby_terms.specs.declared.names.Answer.TheVariants.{Sat, Unsat}
 use Rattle.cert_judge.specs.Values.{named, named_from, unnamed}
 use Rattle.cert_judge.specs.Fate.{Found}
-use Rattle.cert_judge.specs.Drup.{Comes, ComesTo}
+use Rattle.cert_judge.specs.Drup.{StreamFate, SayingsFate}
 use Rattle.cert_judge.specs.DrupCert.{words, lines, IsIdle, IsRemark, Writes, Leads, Names, IsCertOf}
 use Rattle.cert_judge.proofs.DrupLines.{AreFull, IsNext, full, line_texts, texts}
 use Rattle.cert_judge.proofs.CertLines as upto
@@ -42,7 +42,7 @@ module _ (vars : ℕ) (kind : ListKind) (counted : Bool) (unended more : List Sa
     pub are : said ≡ flat_map (heard_says kind) new ++ tail
     pub ends : Nothing tail
         ⊎ ((tail ≡ unended) × Writes vars all got × (length got ≤ vars))
-        ⊎ ((front : List (List ℕ)) × (rest : List Word) × (tail ≡ ended_says kind place got ∷ behind_says more rest) × (all ≡ front ++ codes "0" ∷ texts rest) × Writes vars front got × (length got ≤ vars))
+        ⊎ ((front : List (List ℕ)) × (rest : List Word) × (tail ≡ ended_says kind place got ∷ after_says more rest) × (all ≡ front ++ codes "0" ∷ texts rest) × Writes vars front got × (length got ≤ vars))
 
   nothing : (all : List (List ℕ)) (lits : List LitOf) (said : List Saying) → Nothing said → Listed all lits said
   nothing all lits said n = record { new = []; got = lits; tail = said; gets = sym (append-nil lits); are = refl; ends = inl n }
@@ -63,7 +63,7 @@ module _ (vars : ℕ) (kind : ListKind) (counted : Bool) (unended more : List Sa
         | inl t ↦ rw t (record {
           new = [];
           got = lits;
-          tail = ended_says kind place lits ∷ behind_says more ws;
+          tail = ended_says kind place lits ∷ after_says more ws;
           gets = sym (append-nil lits);
           are = refl;
           ends = inr (inr (before, ws, refl, e ∙ ap (λ z. before ++ z ∷ texts ws) r, h, l));
@@ -127,7 +127,7 @@ module _ (vars : ℕ) (C : List (List LitOf)) where
 
   module _ (a : Answer) where
     abbrev Finds : List (List LitOf) → Assignment → List Saying → Type 0
-    Finds F x ss = ComesTo C F x ss (Some (Found a))
+    Finds F x ss = SayingsFate C F x ss (Some (Found a))
 
     abbrev NamesUpto : Assignment → List (List ℕ) → Type 0
     NamesUpto x ls = (a ≡ Sat) × Upto (NameLines x) ls
@@ -142,9 +142,9 @@ module _ (vars : ℕ) (C : List (List LitOf)) where
     fault_found : (F : List (List LitOf)) (x : Assignment) (kind : ParseFaultKind) (n : ℕ) → Finds F x (bad kind n) → ⊥
     fault_found F x kind n h = cc
 
-    behind_found : (F : List (List LitOf)) (x : Assignment) (rest : List Word) (more : List Saying) → Finds F x (behind_says more rest) → (rest ≡ []) × Finds F x more
-    behind_found F x [] more h = (refl, h)
-    behind_found F x (w ∷ rest) more h = absurd (fault_found F x BadLine w.place h)
+    after_found : (F : List (List LitOf)) (x : Assignment) (rest : List Word) (more : List Saying) → Finds F x (after_says more rest) → (rest ≡ []) × Finds F x more
+    after_found F x [] more h = (refl, h)
+    after_found F x (w ∷ rest) more h = absurd (fault_found F x BadLine w.place h)
 
     named_back : (F : List (List LitOf)) (x : Assignment) (lits : List LitOf) (ss : List Saying) → Finds F x (flat_map (heard_says ValuesList) lits ++ ss) → Finds F (named_from x lits) ss
     named_back F x [] ss h = h
@@ -159,7 +159,7 @@ module _ (vars : ℕ) (C : List (List LitOf)) where
         values_now = subst (λ z. Finds F (named_from x z) k.tail) (sym k.gets) (named_back F x k.new k.tail (subst (λ (z : List Saying). Finds F x z) k.are h))
 
         values_end : (front : List (List ℕ)) (rest : List Word) → texts vs ≡ front ++ codes "0" ∷ texts rest → Writes vars front k.got → length k.got ≤ vars
-            → ComesTo C F (named_from x k.got) (IsValuesEnd ∷ behind_says more rest) (Some (Found a)) → NamesUpto x (t ∷ ls)
+            → SayingsFate C F (named_from x k.got) (IsValuesEnd ∷ after_says more rest) (Some (Found a)) → NamesUpto x (t ∷ ls)
         values_end front rest e w l (inl (s, q)) = (
           (let g : a ≡ Sat = cc in g),
           upto_now (NameLines x) t ls (codes "v" ∷ front) (texts rest) (v ∙ ap (λ z. codes "v" ∷ z) e) (k.got, (front ++ codes "0" ∷ [], refl, (front, refl, w, l)), s),
@@ -223,10 +223,10 @@ module _ (vars : ℕ) (C : List (List LitOf)) where
             upto_now (CertLines x F a) t ls [] more q (zero_cert x F a unsat (subst (λ d. IsAdmitted F d) n admitted))
 
         clause_end : (place : ℕ) (c : List LitOf) (front : List (List ℕ)) (rest : List Word) → words t ≡ front ++ codes "0" ∷ texts rest → Writes vars front c → length c ≤ vars
-            → ComesTo C F x (IsClause c place ∷ behind_says more rest) (Some (Found a)) → CertUpto x F (t ∷ ls)
+            → SayingsFate C F x (IsClause c place ∷ after_says more rest) (Some (Found a)) → CertUpto x F (t ∷ ls)
         clause_end place c front rest e w l (inl (d, n, k)) = refuting c front (texts rest) (let g : a ≡ Unsat = cc in g) d n e w
         clause_end place c front rest e w l (inr (inl (d, n, k))) =
-            let b = behind_found (F ++ c ∷ []) x rest more k in
+            let b = after_found (F ++ c ∷ []) x rest more k in
             let q : words t ≡ front ++ codes "0" ∷ [] = e ∙ ap (λ z. front ++ codes "0" ∷ texts z) b.0 in
             upto_later (CertLines x F a) (CertLines x (F ++ c ∷ []) a) t ls (λ us r. cert_step x F (F ++ c ∷ []) a (words t) us (λ G ps g. inr (inl (c, (front, q, w, l), n, d, g))) r) (later (F ++ c ∷ []) b.1)
         clause_end place c front rest e w l (inr (inr (d, k))) = cc
@@ -243,9 +243,9 @@ module _ (vars : ℕ) (C : List (List LitOf)) where
             ]
 
         deletion_end : (c : List LitOf) (front : List (List ℕ)) (vs rest : List Word) → words t ≡ codes "d" ∷ texts vs → texts vs ≡ front ++ codes "0" ∷ texts rest → Writes vars front c → length c ≤ vars
-            → ComesTo C F x (IsDelete c ∷ behind_says more rest) (Some (Found a)) → CertUpto x F (t ∷ ls)
+            → SayingsFate C F x (IsDelete c ∷ after_says more rest) (Some (Found a)) → CertUpto x F (t ∷ ls)
         deletion_end c front vs rest v e w l (H, d, k) =
-            let b = behind_found H x rest more k in
+            let b = after_found H x rest more k in
             let q : texts vs ≡ front ++ codes "0" ∷ [] = e ∙ ap (λ z. front ++ codes "0" ∷ texts z) b.0 in
             upto_later (CertLines x F a) (CertLines x H a) t ls (λ us r. cert_step x F H a (words t) us (λ G ps g. inr (inr (c, texts vs, H, v, (front, q, w, l), d, g))) r) (later H b.1)
 
@@ -327,7 +327,7 @@ certifies f s Unsat h = h
 certifies f s Sat h = h
 
 -- up to a word 0, and what follows it
-pub cert_found : (f : FormulaOf) (a : Answer) (ended : Bool) (s : List ℕ) → Comes f (sayings f.vars ended s) (Some (Found a)) → (n : ℕ) × (n ≤ length s) × IsCertOf f (take n s) a × IsNext (drop n s)
+pub cert_found : (f : FormulaOf) (a : Answer) (ended : Bool) (s : List ℕ) → StreamFate f (sayings f.vars ended s) (Some (Found a)) → (n : ℕ) × (n ≤ length s) × IsCertOf f (take n s) a × IsNext (drop n s)
 cert_found f a ended s h =
     let k = upto_cut (CertLines f.vars f.clauses unnamed f.clauses a) s (comes_upto f.vars f.clauses a ended 0 f.clauses unnamed (lines_of s) h) in
     (k.0, k.1, certifies f (take k.0 s) a k.2, k.3)

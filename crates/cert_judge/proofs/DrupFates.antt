@@ -6,7 +6,7 @@ use Rattle.cert_stream.specs.Stream.{sayings}
 use Rattle.cert_stream.specs.Telling.{Saying, IsClause, IsDelete, IsValue, IsValuesEnd, IsUnknown, IsFault}
 use Rattle.cert_stream.proofs.GoingOn.{sayings_more}
 use Rattle.sby_terms.specs.declared.names.Answer.TheVariants.{Sat}
-use Rattle.cert_judge.specs.Drup.{BytesCome, Comes, ComesTo, value_lits, values_named, values_said}
+use Rattle.cert_judge.specs.Drup.{BytesFate, StreamFate, SayingsFate, value_lits, values_named, values_said}
 use Rattle.cert_judge.specs.Fate.{Fate, Found}
 use Rattle.cert_judge.specs.Values.{named, named_from, unnamed}
 use Rattle.cert_judge.proofs.Deletions.{Clauses, Alike, alike_itself, alike_admitted, admitted_alike, alike_more, alike_deleted, some_deletion}
@@ -15,7 +15,7 @@ use Rattle.cert_judge.proofs.KindLaws.{Laws}
 use Rattle.cert_judge.proofs.Valuing.{values_once, values_somewhere}
 
 -- what is said later changes no fate
-pub comes_more : (C F : Clauses) (x : Assignment) (ss more : List Saying) (fate : Fate) → ComesTo C F x ss (Some fate) → ComesTo C F x (ss ++ more) (Some fate)
+pub comes_more : (C F : Clauses) (x : Assignment) (ss more : List Saying) (fate : Fate) → SayingsFate C F x ss (Some fate) → SayingsFate C F x (ss ++ more) (Some fate)
 comes_more C F x [] more fate h = cc
 comes_more C F x (IsClause c place ∷ ss) more fate (inl h) = inl h
 comes_more C F x (IsClause c place ∷ ss) more fate (inr (inl (a, n, h))) = inr (inl (a, n, comes_more C (F ++ c ∷ []) x ss more fate h))
@@ -28,7 +28,7 @@ comes_more C F x (IsFault f ∷ ss) more fate h = h
 
 -- from the same clauses, whichever copies were deleted
 module _ (C : Clauses) where
-  comes_alike : (F G : Clauses) (v : Assignment) (ss : List Saying) (x y : Option Fate) → Alike F G → ComesTo C F v ss x → ComesTo C G v ss y → x ≡ y
+  comes_alike : (F G : Clauses) (v : Assignment) (ss : List Saying) (x y : Option Fate) → Alike F G → SayingsFate C F v ss x → SayingsFate C G v ss y → x ≡ y
   comes_alike F G v [] x y w h k = h ∙ sym k
   comes_alike F G v (IsClause c place ∷ ss) x y w (inl (a, e, h)) (inl (b, f, k)) = h ∙ sym k
   comes_alike F G v (IsClause c place ∷ ss) x y w (inl (a, e, h)) (inr (inl (b, f, k))) = absurd (f e)
@@ -46,14 +46,14 @@ module _ (C : Clauses) where
   comes_alike F G v (IsUnknown ∷ ss) x y w h k = h ∙ sym k
   comes_alike F G v (IsFault f ∷ ss) x y w h k = h ∙ sym k
 
-pub comes_once : (f : FormulaOf) (ss : List Saying) (x y : Option Fate) → Comes f ss x → Comes f ss y → x ≡ y
+pub comes_once : (f : FormulaOf) (ss : List Saying) (x y : Option Fate) → StreamFate f ss x → StreamFate f ss y → x ≡ y
 comes_once f ss x y h k = comes_alike f.clauses f.clauses f.clauses unnamed ss x y (alike_itself f.clauses) h k
 
 empty_or_not : (c : List LitOf) → (c ≡ []) ⊎ (c ≢ [])
 empty_or_not [] = inl refl
 empty_or_not (l ∷ c) = inr (λ e. cc)
 
-pub comes_somewhere : (C F : Clauses) (v : Assignment) (ss : List Saying) → ((x : Option Fate) → ComesTo C F v ss x → ⊥) → ⊥
+pub comes_somewhere : (C F : Clauses) (v : Assignment) (ss : List Saying) → ((x : Option Fate) → SayingsFate C F v ss x → ⊥) → ⊥
 comes_somewhere C F v [] k = k None refl
 comes_somewhere C F v (IsClause c place ∷ ss) k =
     let unadmitted : IsAdmitted F c → ⊥ = λ a. elim (empty_or_not c) [
@@ -68,7 +68,7 @@ comes_somewhere C F v (IsUnknown ∷ ss) k = k _ refl
 comes_somewhere C F v (IsFault f ∷ ss) k = k _ refl
 
 -- values end with their 0, whatever is said then
-lits_once : (C F : List (List LitOf)) (x : Assignment) (ss more : List Saying) → ComesTo C F x ss (Some (Found Sat)) → value_lits (ss ++ more) ≡ value_lits ss
+lits_once : (C F : List (List LitOf)) (x : Assignment) (ss more : List Saying) → SayingsFate C F x ss (Some (Found Sat)) → value_lits (ss ++ more) ≡ value_lits ss
 lits_once C F x [] more h = absurd (let e = h in cc)
 lits_once C F x (IsClause c place ∷ ss) more (inl (a, n, e)) = absurd (let q = e in cc)
 lits_once C F x (IsClause c place ∷ ss) more (inr (inl (a, n, h))) = lits_once C (F ++ c ∷ []) x ss more h
@@ -83,13 +83,13 @@ module _ (f : FormulaOf) where
   abbrev said : Bool → List ℕ → List Saying
   said ended bytes = sayings f.vars ended bytes
 
-  comes_on : (bytes : List ℕ) (more whole : List Saying) (x : Fate) → whole ≡ said false bytes ++ more → Comes f (said false bytes) (Some x) → Comes f whole (Some x)
-  comes_on bytes more whole x e h = subst (λ (z : List Saying). Comes f z (Some x)) (sym e) (comes_more f.clauses f.clauses unnamed (said false bytes) more x h)
+  comes_on : (bytes : List ℕ) (more whole : List Saying) (x : Fate) → whole ≡ said false bytes ++ more → StreamFate f (said false bytes) (Some x) → StreamFate f whole (Some x)
+  comes_on bytes more whole x e h = subst (λ (z : List Saying). StreamFate f z (Some x)) (sym e) (comes_more f.clauses f.clauses unnamed (said false bytes) more x h)
 
-  named_on : (bytes : List ℕ) (more whole : List Saying) → whole ≡ said false bytes ++ more → Comes f (said false bytes) (Some (Found Sat)) → values_said whole ≡ values_said (said false bytes)
+  named_on : (bytes : List ℕ) (more whole : List Saying) → whole ≡ said false bytes ++ more → StreamFate f (said false bytes) (Some (Found Sat)) → values_said whole ≡ values_said (said false bytes)
   named_on bytes more whole e h = ap values_said e ∙ ap (named_from unnamed) (lits_once f.clauses f.clauses unnamed (said false bytes) more h)
 
-  pub drup_laws : Laws f (BytesCome f) (values_named f.vars)
+  pub drup_laws : Laws f (BytesFate f) (values_named f.vars)
   drup_laws = record {
     on = λ ended bytes rest x h. let w = sayings_more f.vars ended bytes rest in comes_on bytes w.0 (said ended (bytes ++ rest)) x w.1 h;
     once = λ ended bytes x y h k. comes_once f (said ended bytes) x y h k;

@@ -8,7 +8,7 @@ use Rattle.cert_stream.proofs.GoingOn.{sayings_fed, sayings_parted}
 use Rattle.sby_terms.specs.declared.names.Answer.{Answer}
 use Rattle.cert_judge.specs.Values.{named, unnamed}
 use Rattle.cert_judge.specs.Fate.{Fate, FateBy, FateSoFarBy, Found, Bad}
-use Rattle.cert_judge.specs.Drup.{BytesCome, Comes, ComesTo}
+use Rattle.cert_judge.specs.Drup.{BytesFate, StreamFate, SayingsFate}
 use Rattle.cert_judge.specs.KindCert.{IsSpace}
 use Rattle.cert_judge.specs.Kinds.{FateSoFar, FateOf}
 use Rattle.cert_judge.specs.declared.stream.StreamKind.TheVariants.{Drup}
@@ -16,7 +16,7 @@ use Rattle.cert_judge.specs.declared.stream.CertKind.TheVariants.{EarlyEnd}
 use Rattle.cert_judge.proofs.DrupFates.{comes_more}
 
 -- a certificate is found before UNKNOWN is said
-pub found_before_unknown : (C F : List (List LitOf)) (x : Assignment) (answer : Answer) (ss : List Saying) → ComesTo C F x (ss ++ IsUnknown ∷ []) (Some (Found answer)) → ComesTo C F x ss (Some (Found answer))
+pub found_before_unknown : (C F : List (List LitOf)) (x : Assignment) (answer : Answer) (ss : List Saying) → SayingsFate C F x (ss ++ IsUnknown ∷ []) (Some (Found answer)) → SayingsFate C F x ss (Some (Found answer))
 found_before_unknown C F x answer [] h = absurd (let e = h in cc)
 found_before_unknown C F x answer (IsClause c place ∷ ss) (inl h) = inl h
 found_before_unknown C F x answer (IsClause c place ∷ ss) (inr (inl (a, n, h))) = inr (inl (a, n, found_before_unknown C (F ++ c ∷ []) x answer ss h))
@@ -33,7 +33,7 @@ take_followed bytes rest b most l =
     let e : length bytes + suc n ≡ most = omega (arith, l) in
     (n, subst (λ k. take k (bytes ++ b ∷ rest) ≡ bytes ++ b ∷ take n rest) e (take-append-add bytes (b ∷ rest) (suc n)))
 
--- whatever tells what bytes come to
+-- whatever tells the fate of bytes
 module _ (comes : Bool → List ℕ → Option Fate → Type 0) (answer : Answer)
     (followed : (bytes rest : List ℕ) (b : ℕ) → IsSpace b → comes true bytes (Some (Found answer)) → comes false (bytes ++ b ∷ rest) (Some (Found answer))) where
   pub followed_by : (bytes rest : List ℕ) (b most : ℕ) → IsSpace b → length bytes < most → FateBy comes bytes most (Found answer) → FateSoFarBy comes (bytes ++ b ∷ rest) most (Some (Found answer))
@@ -50,7 +50,7 @@ module _ (comes : Bool → List ℕ → Option Fate → Type 0) (answer : Answer
 
 module _ (f : FormulaOf) (answer : Answer) where
   abbrev Finds : List Saying → Type 0
-  Finds ss = Comes f ss (Some (Found answer))
+  Finds ss = StreamFate f ss (Some (Found answer))
 
   found_followed : (bytes rest : List ℕ) (b : ℕ) → IsSpace b → Finds (sayings f.vars true bytes) → Finds (sayings f.vars false (bytes ++ b ∷ rest))
   found_followed bytes rest b (inr e) h =
@@ -65,4 +65,4 @@ module _ (f : FormulaOf) (answer : Answer) where
       parted (said, more, e, inr q) = subst Finds (sym e) (comes_more f.clauses f.clauses unnamed said more (Found answer) (found_before_unknown f.clauses f.clauses unnamed answer said (subst Finds q h)))
 
   pub fate_followed : (bytes rest : List ℕ) (b most : ℕ) → IsSpace b → length bytes < most → FateOf Drup f bytes most (Found answer) → FateSoFar Drup f (bytes ++ b ∷ rest) most (Some (Found answer))
-  fate_followed bytes rest b most s l fate = followed_by (BytesCome f) answer found_followed bytes rest b most s l fate
+  fate_followed bytes rest b most s l fate = followed_by (BytesFate f) answer found_followed bytes rest b most s l fate

@@ -5,7 +5,7 @@ use Rattle.cnf_form.specs.Cnf.{LitOf, FormulaOf, IsAdmitted, Deletes, Satisfies}
 use Rattle.cert_stream.specs.Telling.{Saying, IsClause, IsDelete, IsValue, IsValuesEnd, IsUnknown}
 use Rattle.drup_check.specs.Checking.{CheckerOf}
 use Rattle.cert_judge.specs.Certificate.{CertificateOf, with_outcome}
-use Rattle.cert_judge.specs.Drup.{ComesTo, value_lits}
+use Rattle.cert_judge.specs.Drup.{SayingsFate, value_lits}
 use Rattle.cert_judge.specs.Leading.{Leads, Tries}
 use Rattle.cert_judge.specs.Reading.{drup_meaning}
 use Rattle.cert_judge.specs.Values.{IsFirstUnsatisfied, named, named_from, values_of}
@@ -37,7 +37,7 @@ module _ (x : CertificateOf CheckerOf) (f : FormulaOf) (F : CheckerOf) (bits : L
   heard_admitted G lits place a m g =
       by (IsClause lits place) (certificate f G bits o)
       (subst (Leads drup_meaning (certificate f F bits None) (IsClause lits place ∷ [])) (sym (still G bits))
-      (record { formula = refl; size = refl; fate = λ rest fate h. inr (inl (a, m, subst (λ z. ComesTo f.clauses z (values_of bits) rest fate) g h)); values = λ rest y h. h; satisfied = λ s. cc }))
+      (record { formula = refl; size = refl; fate = λ rest fate h. inr (inl (a, m, subst (λ z. SayingsFate f.clauses z (values_of bits) rest fate) g h)); values = λ rest y h. h; satisfied = λ s. cc }))
 
   pub heard_empty : (G : CheckerOf) (lits : List LitOf) (place : ℕ) → IsAdmitted F.clauses lits → lits ≡ [] → LeadsTo (IsClause lits place) (certificate f G bits (Some Refuted))
   heard_empty G lits place a m =
@@ -63,7 +63,7 @@ module _ (x : CertificateOf CheckerOf) (f : FormulaOf) (F : CheckerOf) (bits : L
       (record {
         formula = refl;
         size = m;
-        fate = λ rest fate h. subst (λ z. ComesTo f.clauses F.clauses z rest fate) same h;
+        fate = λ rest fate h. subst (λ z. SayingsFate f.clauses F.clauses z rest fate) same h;
         values = λ rest y h. subst (λ z. named_from z (value_lits rest) ≡ y) same h;
         satisfied = λ s. cc;
       }))

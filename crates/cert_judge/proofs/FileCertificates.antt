@@ -7,10 +7,10 @@ use Rattle.cert_stream.specs.Stream.{sayings}
 use Rattle.cert_stream.specs.Telling.{Saying, IsClause}
 use Rattle.sby_terms.specs.declared.names.Answer.TheVariants.{Unsat}
 use Rattle.cert_judge.specs.DrupCert.{IsCert, IsCertOf}
-use Rattle.cert_judge.specs.Drup.{ComesTo}
+use Rattle.cert_judge.specs.Drup.{SayingsFate}
 use Rattle.cert_judge.specs.Fate.{Found}
 use Rattle.cert_judge.specs.Kinds.{FateOf, IsFate}
-use Rattle.cert_judge.specs.ProofFile.{BytesCome, tried}
+use Rattle.cert_judge.specs.ProofFile.{BytesFate, tried}
 use Rattle.cert_judge.specs.Values.{unnamed}
 use Rattle.cert_judge.specs.declared.stream.StreamKind.TheVariants.{Drup, Proof}
 use Rattle.cert_judge.proofs.Deletions.{Clauses}
@@ -20,7 +20,7 @@ use Rattle.cert_judge.proofs.CertSayings.{comes_cut}
 use Rattle.cert_judge.proofs.DrupFates.{comes_more}
 use Rattle.cert_judge.proofs.FileFates.{found_at_end}
 use Rattle.cert_judge.proofs.FilePrefixes.{prefix_found}
-use Rattle.cert_judge.proofs.FileSpelling.{Comes, comes_of, empty}
+use Rattle.cert_judge.proofs.FileSpelling.{StreamFate, comes_of, empty}
 use Rattle.proof_stream.specs.Binary.{line_said}
 use Rattle.proof_stream.specs.File.{fresh, spoken}
 use Rattle.proof_stream.specs.Spelling.{AreSaid, IsTextProof, ProofLine, Spelt}
@@ -33,7 +33,7 @@ use Rattle.proof_stream.proofs.AnyLines.{text_file_says, text_says}
 -- what lines are found to be, wherever they stand
 module _ (C : Clauses) where
   abbrev pub Finds : Clauses → List Saying → Type 0
-  Finds F ss = ComesTo C F unnamed ss (Some (Found Unsat))
+  Finds F ss = SayingsFate C F unnamed ss (Some (Found Unsat))
 
   line_moves : (kind : LineKind) (c : List LitOf) (p q : ℕ) (F : Clauses) (ss ts : List Saying) → ((H : Clauses) → Finds H ss → Finds H ts) → Finds F (line_said kind p c ∷ ss) → Finds F (line_said kind q c ∷ ts)
   line_moves Clause c p q F ss ts again (inl h) = inl h
@@ -79,10 +79,10 @@ module _ (f : FormulaOf) (ls : List ProofLine) (t : List ℕ) (most : ℕ) (h : 
   whole_said =
       text_says f.vars 0 (ls ++ empty ∷ []) whole (last_line f.vars 0 t ls h)
 
-  found_tried : Comes f (AreSaid ls) most (length t) (Found Unsat) → (us : List Saying) × AreSaid (ls ++ empty ∷ []) us × Finds f.clauses f.clauses us
+  found_tried : StreamFate f (AreSaid ls) most (length t) (Found Unsat) → (us : List Saying) × AreSaid (ls ++ empty ∷ []) us × Finds f.clauses f.clauses us
   found_tried (inl (ss, a, k)) = (tried (length t) ss, said_tried ls ss (length t) a, comes_more f.clauses f.clauses unnamed ss (IsClause [] (length t) ∷ []) (Found Unsat) k)
   found_tried (inr (ss, a, k, us, v, c, i, e)) =
-      (tried (length t) us, said_tried ls us (length t) c, subst (λ z. ComesTo f.clauses f.clauses unnamed (tried (length t) us) (Some z)) (found_at_end (length t) Unsat v e) i)
+      (tried (length t) us, said_tried ls us (length t) c, subst (λ z. SayingsFate f.clauses f.clauses unnamed (tried (length t) us) (Some z)) (found_at_end (length t) Unsat v e) i)
 
   pub found_cert : FateOf Proof f t most (Found Unsat) → (n : ℕ) × (n ≤ length whole) × IsCertOf f (take n whole) Unsat
   found_cert k =
@@ -107,7 +107,7 @@ module _ (f : FormulaOf) (ls : List ProofLine) (t : List ℕ) (most : ℕ) (h : 
       let b : AreSaid ls ts = text_file_says f.vars ls t h true ts (file_spoken Text f.vars true t) in
       let i = lines_move f.clauses (ls ++ empty ∷ []) (sayings f.vars false whole) (tried (length t) ss) f.clauses whole_said (said_tried ls ss (length t) a) m in
       let j = lines_move f.clauses (ls ++ empty ∷ []) (sayings f.vars false whole) (tried (length t) ts) f.clauses whole_said (said_tried ls ts (length t) b) m in
-      let file : BytesCome Text f true t (Some (Found Unsat)) = elim (comes_cut f.clauses f.clauses unnamed ss (IsClause [] (length t) ∷ []) (Found Unsat) i) [
+      let file : BytesFate Text f true t (Some (Found Unsat)) = elim (comes_cut f.clauses f.clauses unnamed ss (IsClause [] (length t) ∷ []) (Found Unsat) i) [
         | inl k ↦ inl (ss, file_spoken Text f.vars false t, k)
         | inr k ↦ inr ((ss, file_spoken Text f.vars false t, k), (ts, Found Unsat, file_spoken Text f.vars true t, j, refl))
       ] in

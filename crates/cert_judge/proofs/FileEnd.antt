@@ -9,11 +9,11 @@ use Rattle.proof_stream.specs.declared.spot.Form.{Form}
 use Rattle.proof_stream.specs.declared.spot.Form.TheVariants.{Text, Binary}
 use Rattle.proof_stream.proofs.Files.{file_spoken}
 use Rattle.cert_judge.specs.Certificate.{CertificateOf, LineOf}
-use Rattle.cert_judge.specs.Drup.{Comes}
-use Rattle.cert_judge.specs.Leading.{HasEnded, IsAt, Leads, Tries, ended_at, file_ending}
+use Rattle.cert_judge.specs.Drup.{StreamFate}
+use Rattle.cert_judge.specs.Leading.{HasEnded, AwaitsMore, Leads, Tries, ended_at, file_ending}
 use Rattle.cert_judge.specs.Lines.{AreValuesTold, TookEnd}
 use Rattle.cert_judge.specs.Outcomes.{fate_of, fate_told}
-use Rattle.cert_judge.specs.ProofFile.{BytesCome, EndComes, LinesCome, at_end, tried}
+use Rattle.cert_judge.specs.ProofFile.{BytesFate, EndFate, LinesFate, at_end, tried}
 use Rattle.cert_judge.specs.Reading.{drup_meaning, file_parsing}
 use Rattle.cert_judge.specs.Values.{unnamed}
 use Rattle.cert_judge.specs.declared.lines.Lines.TheVariants.{Proof, ProofBinary}
@@ -44,7 +44,7 @@ ended n c (Bad b) e =
       | inr f ↦ rw f (Bad b, e, refl, refl)
     ]
 
-module _ (form : Form) (l : LineOf FileOf CheckerOf) (d : CertOf) (bytes : List ℕ) (h : IsAt file_parsing drup_meaning (fresh form l.certificate.formula.vars) l.parser l.certificate bytes)
+module _ (form : Form) (l : LineOf FileOf CheckerOf) (d : CertOf) (bytes : List ℕ) (h : AwaitsMore file_parsing drup_meaning (fresh form l.certificate.formula.vars) l.parser l.certificate bytes)
     (n : taken_of l.parser ≡ length bytes) (g : HasEnded l.parser l.certificate d) where
   abbrev f : FormulaOf
   f = l.certificate.formula
@@ -72,10 +72,10 @@ module _ (form : Form) (l : LineOf FileOf CheckerOf) (d : CertOf) (bytes : List 
   end_outcome = ap (λ (z : CertOf). z.outcome) is ∙ closed.1
 
   -- nothing came of the lines before the end
-  nothing_yet : LinesCome form f bytes None
+  nothing_yet : LinesFate form f bytes None
   nothing_yet =
       let k : fault (after start bytes) ≡ None = ap fault (sym h.parser) ∙ h.whole in
-      spoken_lines form f bytes None (subst (λ o. Comes f (said start bytes ++ fault_said o) None) (sym k) (h.fate [] None refl))
+      spoken_lines form f bytes None (subst (λ o. StreamFate f (said start bytes ++ fault_said o) None) (sym k) (h.fate [] None refl))
 
   said_at_end : said start bytes ++ (file_ending l.parser ++ IsClause [] (taken_of l.parser) ∷ []) ≡ tried (length bytes) (spoken true start bytes)
   said_at_end =
@@ -83,24 +83,24 @@ module _ (form : Form) (l : LineOf FileOf CheckerOf) (d : CertOf) (bytes : List 
       ∙ sym (append_assoc (said start bytes) (file_ending (after start bytes)) (IsClause [] (taken_of l.parser) ∷ []))
       ∙ ap (λ k. spoken true start bytes ++ IsClause [] k ∷ []) n
 
-  end_comes : EndComes form f bytes (fate_of closed.0)
+  end_comes : EndFate form f bytes (fate_of closed.0)
   end_comes = (
     spoken true start bytes,
     fate_of won,
     file_spoken form f.vars true bytes,
-    subst (λ (z : List Saying). Comes f z (Some (fate_of won))) said_at_end
-        (subst (λ o. Comes f (said start bytes ++ (file_ending l.parser ++ IsClause [] (taken_of l.parser) ∷ [])) (fate_told o)) led.1.1
+    subst (λ (z : List Saying). StreamFate f z (Some (fate_of won))) said_at_end
+        (subst (λ o. StreamFate f (said start bytes ++ (file_ending l.parser ++ IsClause [] (taken_of l.parser) ∷ [])) (fate_told o)) led.1.1
         (comes_told drup_meaning file_parsing start l.parser l.certificate bytes h (file_ending l.parser ++ IsClause [] (taken_of l.parser) ∷ []) g.tried led.0 (λ f e x. refl))),
     closed.2 ∙ ap (λ k. at_end k (fate_of won)) n,
   )
 
-  comes_here : BytesCome form f true bytes (fate_told d.outcome)
-  comes_here = subst (λ o. BytesCome form f true bytes (fate_told o)) (sym end_outcome) (inr (nothing_yet, end_comes))
+  comes_here : BytesFate form f true bytes (fate_told d.outcome)
+  comes_here = subst (λ o. BytesFate form f true bytes (fate_told o)) (sym end_outcome) (inr (nothing_yet, end_comes))
 
-  pub file_end_comes : BytesCome form d.formula true bytes (fate_told d.outcome)
-  file_end_comes = subst (λ (z : FormulaOf). BytesCome form z true bytes (fate_told d.outcome)) (sym end_formula) comes_here
+  pub file_end_comes : BytesFate form d.formula true bytes (fate_told d.outcome)
+  file_end_comes = subst (λ (z : FormulaOf). BytesFate form z true bytes (fate_told d.outcome)) (sym end_formula) comes_here
 
-  values_by : (o : Option Outcome) → BytesCome form d.formula true bytes (fate_told o) → AreValuesTold d.formula unnamed d.bits o
+  values_by : (o : Option Outcome) → BytesFate form d.formula true bytes (fate_told o) → AreValuesTold d.formula unnamed d.bits o
   values_by None k = tt
   values_by (Some Refuted) k = tt
   values_by (Some Satisfied) k = absurd (file_never form d.formula true bytes k)

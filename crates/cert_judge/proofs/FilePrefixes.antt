@@ -20,7 +20,7 @@ use Rattle.cert_stream.proofs.Streams.{stream_spoken}
 use Rattle.cert_stream.proofs.Turning.{turn_blank, turn_visible}
 use Rattle.sby_terms.specs.declared.names.Answer.TheVariants.{Unsat}
 use Rattle.cert_judge.specs.Fate.{Found}
-use Rattle.cert_judge.specs.Drup.{ComesTo}
+use Rattle.cert_judge.specs.Drup.{SayingsFate}
 use Rattle.cert_judge.proofs.DrupFates.{comes_more}
 use Rattle.cert_judge.proofs.DrupFollowing.{found_before_unknown}
 use Rattle.proof_stream.specs.Binary.{line_said}
@@ -29,7 +29,7 @@ use Rattle.proof_stream.specs.declared.spot.LineKind.{LineKind}
 use Rattle.proof_stream.specs.declared.spot.LineKind.TheVariants.{Clause as ClauseLine, Deletion as DeletionLine}
 
 abbrev Finds : List (List LitOf) → List (List LitOf) → Assignment → List Saying → Type 0
-Finds C F x ss = ComesTo C F x ss (Some (Found Unsat))
+Finds C F x ss = SayingsFate C F x ss (Some (Found Unsat))
 
 -- lines have no fault
 no_line : (kind : LineKind) (p : ℕ) (c : List LitOf) (f : ParseFault) (ss ts : List Saying) → IsFault f ∷ ss ≡ line_said kind p c ∷ ts → ⊥

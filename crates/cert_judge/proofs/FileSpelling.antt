@@ -1,4 +1,4 @@
--- A binary proof and its text come to the same.
+-- A binary proof and its text have the same fate.
 use Rattle.std.proofs.Common.{◌≡◌, ◌⊎◌, ℕ, ◌≤◌, true, false, eqb, List, [], ◌∷◌, ◌++◌, length, Option, Some, None, refl, sym, ap, ◌∙◌, subst, inl, inr, Bool}
 use Rattle.std.proofs.lemmas.Bool.{cases_Bool, eqb-false}
 use Rattle.std.specs.Prelude.{Contains}
@@ -13,7 +13,7 @@ use Rattle.cert_stream.specs.declared.mode.ParseFaultKind.{ParseFaultKind}
 use Rattle.cert_judge.specs.declared.stream.CertKind.{CertKind}
 use Rattle.cert_judge.specs.declared.stream.CertKind.TheVariants.{NotRup, EarlyEnd}
 use Rattle.cert_judge.specs.declared.stream.StreamKind.TheVariants.{Proof, ProofBinary}
-use Rattle.cert_judge.specs.Drup.{ComesTo as DrupComesTo}
+use Rattle.cert_judge.specs.Drup.{SayingsFate as DrupSayingsFate}
 use Rattle.cert_judge.specs.Fate.{Fate, FateBy, Found, Bad, cert_kind}
 use Rattle.cert_judge.specs.Kinds.{FateOf, IsFate}
 use Rattle.cert_judge.specs.Values.{unnamed}
@@ -28,7 +28,7 @@ use Rattle.proof_stream.specs.declared.spot.LineKind.TheVariants.{Clause, Deleti
 use Rattle.proof_stream.specs.declared.spot.Form.{Form}
 use Rattle.proof_stream.specs.declared.spot.Form.TheVariants.{Binary, Text}
 use Rattle.proof_stream.proofs.AnyLines.{lines_said, spelt_is_any, spelt_not_crowded}
-use Rattle.cert_judge.specs.ProofFile.{BytesCome, at_end, tried}
+use Rattle.cert_judge.specs.ProofFile.{BytesFate, at_end, tried}
 use Rattle.cert_judge.specs.Same.{IsLiteralFault, IsSameFate}
 
 -- the same but for byte numbers; or a literal is at fault in both, where some line has one of a greater variable after as many as there are variables
@@ -64,16 +64,16 @@ module _ (Crowded : Type 0) where
 abbrev pub empty : ProofLine
 empty = record { kind = Clause; lits = [] }
 
--- lines come to the same, wherever they stand
+-- lines have the same fate, wherever they stand
 module _ (Crowded : Type 0) (C : Clauses) (vars : ℕ) where
-  abbrev pub ComesTo : Clauses → List Saying → Option Fate → Type 0
-  ComesTo F ss fate = DrupComesTo C F unnamed ss fate
+  abbrev pub SayingsFate : Clauses → List Saying → Option Fate → Type 0
+  SayingsFate F ss fate = DrupSayingsFate C F unnamed ss fate
 
   abbrev Again : List Saying → List Saying → Option Fate → Option Fate → Type 0
-  Again ss ts x y = (H K : Clauses) → Alike H K → ComesTo H ss x → ComesTo K ts y → AreSame Crowded x y
+  Again ss ts x y = (H K : Clauses) → Alike H K → SayingsFate H ss x → SayingsFate K ts y → AreSame Crowded x y
 
-  same_line : (kind : LineKind) (c : List LitOf) (p q : ℕ) (F G : Clauses) (ss ts : List Saying) (x y : Option Fate) → Alike F G → Again ss ts x y → ComesTo F (line_said kind p c ∷ ss) x
-      → ComesTo G (line_said kind q c ∷ ts) y → AreSame Crowded x y
+  same_line : (kind : LineKind) (c : List LitOf) (p q : ℕ) (F G : Clauses) (ss ts : List Saying) (x y : Option Fate) → Alike F G → Again ss ts x y → SayingsFate F (line_said kind p c ∷ ss) x
+      → SayingsFate G (line_said kind q c ∷ ts) y → AreSame Crowded x y
   same_line Clause c p q F G ss ts x y w again (inl (a, e, h)) (inl (b, f, k)) = found_same Crowded x y h k
   same_line Clause c p q F G ss ts x y w again (inl (a, e, h)) (inr (inl (b, f, k))) = absurd (f e)
   same_line Clause c p q F G ss ts x y w again (inl (a, e, h)) (inr (inr (b, k))) = absurd (b (alike_admitted F G c w a))
@@ -85,48 +85,48 @@ module _ (Crowded : Type 0) (C : Clauses) (vars : ℕ) where
   same_line Clause c p q F G ss ts x y w again (inr (inr (a, h))) (inr (inr (b, k))) = bad_same Crowded NotRup p q x y h k
   same_line Deletion c p q F G ss ts x y w again (H, d, h) (K, e, k) = again H K (alike_deleted F G H K c w d e) h k
 
-  -- the same lines come to the same, and so does what is at fault with them
+  -- the same lines have the same fate, and so does what is at fault with them
   same_said : (o : Option LineFault) (l : ProofLine) (ls : List ProofLine) (ss ts : List Saying) (x y : Option Fate) → (o ≡ Some Either → Crowded) → ((s t : List Saying) → AreSaidTo vars ls s → AreSaidTo vars ls t → Again s t x y)
       → SaidBy o l (AreSaidTo vars ls) ss → SaidBy o l (AreSaidTo vars ls) ts → Again ss ts x y
   same_said None l ls ss ts x y c again (p, s, e, a) (q, t, f, b) F G w h k =
-      same_line l.kind l.lits p q F G s t x y w (again s t a b) (subst (λ (z : List Saying). ComesTo F z x) e h) (subst (λ (z : List Saying). ComesTo G z y) f k)
+      same_line l.kind l.lits p q F G s t x y w (again s t a b) (subst (λ (z : List Saying). SayingsFate F z x) e h) (subst (λ (z : List Saying). SayingsFate G z y) f k)
   same_said (Some fault) l ls ss ts x y c again (k, p, t, e) (m, q, u, f) F G w h i =
-      fault_same Crowded fault k m p q x y (λ z. c (ap Some z)) t u (subst (λ (z : List Saying). ComesTo F z x) e h) (subst (λ (z : List Saying). ComesTo G z y) f i)
+      fault_same Crowded fault k m p q x y (λ z. c (ap Some z)) t u (subst (λ (z : List Saying). SayingsFate F z x) e h) (subst (λ (z : List Saying). SayingsFate G z y) f i)
 
   abbrev MayCrowd : List ProofLine → Type 0
   MayCrowd ls = (l : ProofLine) → Contains ls l → fault_in vars 0 l.lits ≡ Some Either → Crowded
 
   same_comes : (ls : List ProofLine) (ss ts : List Saying) (x y : Option Fate) → MayCrowd ls → AreSaidTo vars ls ss → AreSaidTo vars ls ts → Again ss ts x y
   same_comes [] ss ts x y c e f F G w h k =
-      same_as Crowded x y None None (subst (λ (z : List Saying). ComesTo F z x) e h) (subst (λ (z : List Saying). ComesTo G z y) f k) refl
+      same_as Crowded x y None None (subst (λ (z : List Saying). SayingsFate F z x) e h) (subst (λ (z : List Saying). SayingsFate G z y) f k) refl
   same_comes (l ∷ ls) ss ts x y c a b F G w h k =
       same_said (fault_in vars 0 l.lits) l ls ss ts x y (c l (Contains-head l ls)) (λ s t i j. same_comes ls s t x y (λ m n. c m (Contains-append_right (l ∷ []) ls m n)) i j) a b F G w h k
 
-  -- lines that came to nothing have no fault: a last empty clause is said after them
-  line_none : (kind : LineKind) (c : List LitOf) (p : ℕ) (F : Clauses) (ss : List Saying) → ComesTo F (line_said kind p c ∷ ss) None → (G : Clauses) × ComesTo G ss None
+  -- undecided lines have no fault: a last empty clause is said after them
+  line_none : (kind : LineKind) (c : List LitOf) (p : ℕ) (F : Clauses) (ss : List Saying) → SayingsFate F (line_said kind p c ∷ ss) None → (G : Clauses) × SayingsFate G ss None
   line_none Clause c p F ss (inl (a, e, h)) = absurd (let z = h in cc)
   line_none Clause c p F ss (inr (inl (a, e, h))) = (F ++ c ∷ [], h)
   line_none Clause c p F ss (inr (inr (a, h))) = absurd (let z = h in cc)
   line_none Deletion c p F ss (G, d, h) = (G, h)
 
   tried_by : (o : Option LineFault) (l : ProofLine) (ls ms : List ProofLine) (ss ts : List Saying) (F : Clauses) (n : ℕ)
-      → ((G : Clauses) (s t : List Saying) → AreSaidTo vars ls s → ComesTo G s None → AreSaidTo vars ls t → AreSaidTo vars ms (tried n t)) → SaidBy o l (AreSaidTo vars ls) ss → ComesTo F ss None → SaidBy o l (AreSaidTo vars ls) ts
+      → ((G : Clauses) (s t : List Saying) → AreSaidTo vars ls s → SayingsFate G s None → AreSaidTo vars ls t → AreSaidTo vars ms (tried n t)) → SaidBy o l (AreSaidTo vars ls) ss → SayingsFate F ss None → SaidBy o l (AreSaidTo vars ls) ts
       → SaidBy o l (AreSaidTo vars ms) (tried n ts)
   tried_by None l ls ms ss ts F n again (p, s, e, a) h (q, t, f, b) =
-      let k = line_none l.kind l.lits p F s (subst (λ (z : List Saying). ComesTo F z None) e h) in
+      let k = line_none l.kind l.lits p F s (subst (λ (z : List Saying). SayingsFate F z None) e h) in
       (q, tried n t, ap (tried n) f, again k.0 s t a k.1 b)
-  tried_by (Some fault) l ls ms ss ts F n again (k, p, t, e) h b = absurd (let z = subst (λ (z : List Saying). ComesTo F z None) e h in cc)
+  tried_by (Some fault) l ls ms ss ts F n again (k, p, t, e) h b = absurd (let z = subst (λ (z : List Saying). SayingsFate F z None) e h in cc)
 
-  tried_said : (ls : List ProofLine) (ss ts : List Saying) (F : Clauses) (n : ℕ) → AreSaidTo vars ls ss → ComesTo F ss None → AreSaidTo vars ls ts → AreSaidTo vars (ls ++ empty ∷ []) (tried n ts)
+  tried_said : (ls : List ProofLine) (ss ts : List Saying) (F : Clauses) (n : ℕ) → AreSaidTo vars ls ss → SayingsFate F ss None → AreSaidTo vars ls ts → AreSaidTo vars (ls ++ empty ∷ []) (tried n ts)
   tried_said [] ss ts F n a h e = (n, [], ap (tried n) e, refl)
   tried_said (l ∷ ls) ss ts F n a h b = tried_by (fault_in vars 0 l.lits) l ls (ls ++ empty ∷ []) ss ts F n (λ G s t c k d. tried_said ls s t G n c k d) a h b
 
-  -- a last empty clause after lines that came to nothing is admitted, or refused there
+  -- a last empty clause after undecided lines is admitted, or refused there
   abbrev IsLast : ℕ → Fate → Type 0
   IsLast n v = (v ≡ Found Unsat) ⊎ (v ≡ Bad NotRup n)
 
   last_line : (kind : LineKind) (c : List LitOf) (p q n : ℕ) (F G : Clauses) (ss ts : List Saying) (v : Fate) → Alike F G
-      → ((H K : Clauses) → Alike H K → ComesTo H ss None → ComesTo K (tried n ts) (Some v) → IsLast n v) → ComesTo F (line_said kind p c ∷ ss) None → ComesTo G (line_said kind q c ∷ tried n ts) (Some v) → IsLast n v
+      → ((H K : Clauses) → Alike H K → SayingsFate H ss None → SayingsFate K (tried n ts) (Some v) → IsLast n v) → SayingsFate F (line_said kind p c ∷ ss) None → SayingsFate G (line_said kind q c ∷ tried n ts) (Some v) → IsLast n v
   last_line Clause c p q n F G ss ts v w again (inl (a, e, h)) k = absurd (let z = h in cc)
   last_line Clause c p q n F G ss ts v w again (inr (inr (a, h))) k = absurd (let z = h in cc)
   last_line Clause c p q n F G ss ts v w again (inr (inl (a, e, h))) (inl (b, f, k)) = absurd (e f)
@@ -134,20 +134,20 @@ module _ (Crowded : Type 0) (C : Clauses) (vars : ℕ) where
   last_line Clause c p q n F G ss ts v w again (inr (inl (a, e, h))) (inr (inr (b, k))) = absurd (b (alike_admitted F G c w a))
   last_line Deletion c p q n F G ss ts v w again (H, d, h) (K, e, k) = again H K (alike_deleted F G H K c w d e) h k
 
-  only : (n : ℕ) (G : Clauses) (v : Fate) → ComesTo G (tried n []) (Some v) → IsLast n v
+  only : (n : ℕ) (G : Clauses) (v : Fate) → SayingsFate G (tried n []) (Some v) → IsLast n v
   only n G v (inl (a, e, h)) = inl (some_same v (Found Unsat) h)
   only n G v (inr (inl (a, e, h))) = absurd (e refl)
   only n G v (inr (inr (a, h))) = inr (some_same v (Bad NotRup n) h)
 
   last_said : (o : Option LineFault) (l : ProofLine) (ls : List ProofLine) (ss ts : List Saying) (n : ℕ) (v : Fate) (F G : Clauses) → Alike F G
-      → ((s t : List Saying) → AreSaidTo vars ls s → AreSaidTo vars ls t → (H K : Clauses) → Alike H K → ComesTo H s None → ComesTo K (tried n t) (Some v) → IsLast n v) → SaidBy o l (AreSaidTo vars ls) ss
-      → SaidBy o l (AreSaidTo vars ls) ts → ComesTo F ss None → ComesTo G (tried n ts) (Some v) → IsLast n v
+      → ((s t : List Saying) → AreSaidTo vars ls s → AreSaidTo vars ls t → (H K : Clauses) → Alike H K → SayingsFate H s None → SayingsFate K (tried n t) (Some v) → IsLast n v) → SaidBy o l (AreSaidTo vars ls) ss
+      → SaidBy o l (AreSaidTo vars ls) ts → SayingsFate F ss None → SayingsFate G (tried n ts) (Some v) → IsLast n v
   last_said None l ls ss ts n v F G w again (p, s, e, a) (q, t, f, b) h k =
-      last_line l.kind l.lits p q n F G s t v w (again s t a b) (subst (λ (z : List Saying). ComesTo F z None) e h) (subst (λ (z : List Saying). ComesTo G (tried n z) (Some v)) f k)
-  last_said (Some fault) l ls ss ts n v F G w again (m, p, t, e) b h k = absurd (let z = subst (λ (z : List Saying). ComesTo F z None) e h in cc)
+      last_line l.kind l.lits p q n F G s t v w (again s t a b) (subst (λ (z : List Saying). SayingsFate F z None) e h) (subst (λ (z : List Saying). SayingsFate G (tried n z) (Some v)) f k)
+  last_said (Some fault) l ls ss ts n v F G w again (m, p, t, e) b h k = absurd (let z = subst (λ (z : List Saying). SayingsFate F z None) e h in cc)
 
-  last_comes : (ls : List ProofLine) (ss ts : List Saying) (n : ℕ) (v : Fate) → AreSaidTo vars ls ss → AreSaidTo vars ls ts → (F G : Clauses) → Alike F G → ComesTo F ss None → ComesTo G (tried n ts) (Some v) → IsLast n v
-  last_comes [] ss ts n v e f F G w h k = only n G v (subst (λ (z : List Saying). ComesTo G (tried n z) (Some v)) f k)
+  last_comes : (ls : List ProofLine) (ss ts : List Saying) (n : ℕ) (v : Fate) → AreSaidTo vars ls ss → AreSaidTo vars ls ts → (F G : Clauses) → Alike F G → SayingsFate F ss None → SayingsFate G (tried n ts) (Some v) → IsLast n v
+  last_comes [] ss ts n v e f F G w h k = only n G v (subst (λ (z : List Saying). SayingsFate G (tried n z) (Some v)) f k)
   last_comes (l ∷ ls) ss ts n v a b F G w h k = last_said (fault_in vars 0 l.lits) l ls ss ts n v F G w (λ s t c d H K i x y. last_comes ls s t n v c d H K i x y) a b h k
 
 own : (n : ℕ) → eqb n n ≡ true
@@ -166,23 +166,23 @@ ends_same n m v w (inr e) (inr f) s =
     let b : at_end m w ≡ Bad EarlyEnd m = ap (at_end m) f ∙ refused_at_end m in
     subst (λ z. IsSameFate z (at_end m w)) (sym a) (m, b)
 
--- what a file comes to that says so
+-- the fate of a file that says so
 module _ (f : FormulaOf) (Said : List Saying → Type 0) (most : ℕ) where
-  abbrev pub LinesComeTo : List Saying → Option Fate → Type 0
-  LinesComeTo ss x = DrupComesTo f.clauses f.clauses unnamed ss x
+  abbrev pub LinesSayFate : List Saying → Option Fate → Type 0
+  LinesSayFate ss x = DrupSayingsFate f.clauses f.clauses unnamed ss x
 
-  abbrev pub Comes : ℕ → Fate → Type 0
-  Comes n x =
-      ((ss : List Saying) × Said ss × LinesComeTo ss (Some x)) ⊎ ((ss : List Saying) × Said ss × LinesComeTo ss None × (ts : List Saying) × (v : Fate) × Said ts × LinesComeTo (tried n ts) (Some v) × (x ≡ at_end n v))
+  abbrev pub StreamFate : ℕ → Fate → Type 0
+  StreamFate n x =
+      ((ss : List Saying) × Said ss × LinesSayFate ss (Some x)) ⊎ ((ss : List Saying) × Said ss × LinesSayFate ss None × (ts : List Saying) × (v : Fate) × Said ts × LinesSayFate (tried n ts) (Some v) × (x ≡ at_end n v))
 
-  whole : (form : Form) (bytes : List ℕ) (x : Fate) → length bytes ≤ most → FateBy (BytesCome form f) bytes most x → BytesCome form f true bytes (Some x)
+  whole : (form : Form) (bytes : List ℕ) (x : Fate) → length bytes ≤ most → FateBy (BytesFate form f) bytes most x → BytesFate form f true bytes (Some x)
   whole form bytes x l h = elim (h.within l) [ inl k ↦ k | inr (k, e) ↦ absurd k ]
 
-  pub comes_of : (form : Form) (bytes : List ℕ) (x : Fate) → ((ended : Bool) (ss : List Saying) → FileSays form f.vars ended bytes ss → Said ss) → length bytes ≤ most → FateBy (BytesCome form f) bytes most x
-      → Comes (length bytes) x
+  pub comes_of : (form : Form) (bytes : List ℕ) (x : Fate) → ((ended : Bool) (ss : List Saying) → FileSays form f.vars ended bytes ss → Said ss) → length bytes ≤ most → FateBy (BytesFate form f) bytes most x
+      → StreamFate (length bytes) x
   comes_of form bytes x s l h = by (whole form bytes x l h)
     where
-      by : BytesCome form f true bytes (Some x) → Comes (length bytes) x
+      by : BytesFate form f true bytes (Some x) → StreamFate (length bytes) x
       by (inl (ss, w, k)) = inl (ss, s false ss w, k)
       by (inr ((ss, w, k), (ts, v, t, i, e))) = inr (ss, s false ss w, k, ts, v, s true ts t, i, e)
 
@@ -199,8 +199,8 @@ module _ (f : FormulaOf) (ls : List ProofLine) (most : ℕ) where
   abbrev Crowded : Type 0
   Crowded = IsCrowded f.vars ls
 
-  abbrev FileComes : ℕ → Fate → Type 0
-  FileComes = Comes f (AreSaidTo f.vars ls) most
+  abbrev FileFate : ℕ → Fate → Type 0
+  FileFate = StreamFate f (AreSaidTo f.vars ls) most
 
   crowd : (l : ProofLine) → Contains ls l → fault_in f.vars 0 l.lits ≡ Some Either → Crowded
   crowd l c e = (l, c, e)
@@ -215,10 +215,10 @@ module _ (f : FormulaOf) (ls : List ProofLine) (most : ℕ) where
   abbrev Like : Fate → Fate → Type 0
   Like = IsLike Crowded
 
-  same_lines : (ss ts : List Saying) (x y : Option Fate) → AreSaidTo f.vars ls ss → AreSaidTo f.vars ls ts → DrupComesTo C C unnamed ss x → DrupComesTo C C unnamed ts y → AreSame Crowded x y
+  same_lines : (ss ts : List Saying) (x y : Option Fate) → AreSaidTo f.vars ls ss → AreSaidTo f.vars ls ts → DrupSayingsFate C C unnamed ss x → DrupSayingsFate C C unnamed ts y → AreSame Crowded x y
   same_lines ss ts x y a b h k = same_comes Crowded C f.vars ls ss ts x y crowd a b C C (alike_itself C) h k
 
-  same_fates : (n m : ℕ) (x y : Fate) → FileComes n x → FileComes m y → Like x y
+  same_fates : (n m : ℕ) (x y : Fate) → FileFate n x → FileFate m y → Like x y
   same_fates n m x y (inl (ss, a, h)) (inl (ts, b, k)) = same_some Crowded x y (same_lines ss ts (Some x) (Some y) a b h k)
   same_fates n m x y (inl (ss, a, h)) (inr (ts, b, k, us, v, c, i, e)) = absurd (let q = same_lines ss ts (Some x) None a b h k in let r = q.1 in cc)
   same_fates n m x y (inr (ss, a, h, us, v, c, i, e)) (inl (ts, b, k)) = absurd (let q = same_lines ss ts None (Some y) a b h k in cc)

@@ -8,7 +8,7 @@ use Rattle.sby_terms.specs.declared.names.Answer.{Answer}
 use Rattle.sby_terms.specs.declared.names.Answer.TheVariants.{Sat, Unsat}
 use Rattle.cert_judge.specs.Fate.{Found}
 use Rattle.cert_judge.specs.KindCert.{BeginsCert, Counts, HoldsCert, IsClosedCert, IsOpenCert, IsSpace}
-use Rattle.cert_judge.specs.Kinds.{BytesCome, FateOf, FateSoFar, IsFate, IsFateSoFar}
+use Rattle.cert_judge.specs.Kinds.{BytesFate, FateOf, FateSoFar, IsFate, IsFateSoFar}
 use Rattle.cert_judge.specs.Output.{has_values, stream_of}
 use Rattle.cert_judge.specs.OutputFate.{IsOutputFate, own_fate}
 use Rattle.cert_judge.specs.declared.stream.StreamKind.{StreamKind}
@@ -27,12 +27,12 @@ use Rattle.cert_judge.proofs.LratFollowing.{fate_followed as hinted_followed}
 use Rattle.cert_judge.proofs.OutputFates.{own_same}
 use Rattle.cert_judge.proofs.TextCerts.{lines_cert, text_cert, text_closed, text_followed, text_open}
 
--- the bytes come to a certificate so far, and stay so
+-- the bytes are a certificate so far, and stay so
 module _ (kind : StreamKind) (f : FormulaOf) (most : ℕ) (answer : Answer) where
-  stays_found : (bytes rest : List ℕ) → length bytes ≤ most → BytesCome kind f false bytes (Some (Found answer)) → FateSoFar kind f (bytes ++ rest) most (Some (Found answer))
+  stays_found : (bytes rest : List ℕ) → length bytes ≤ most → BytesFate kind f false bytes (Some (Found answer)) → FateSoFar kind f (bytes ++ rest) most (Some (Found answer))
   stays_found bytes rest l h = fate_stays kind f most bytes rest (Found answer) (record { within = λ _. h; beyond = λ b. absurd (omega (arith, b, l)) })
 
-  whole_found : (bytes : List ℕ) → length bytes ≤ most → BytesCome kind f true bytes (Some (Found answer)) → FateOf kind f bytes most (Found answer)
+  whole_found : (bytes : List ℕ) → length bytes ≤ most → BytesFate kind f true bytes (Some (Found answer)) → FateOf kind f bytes most (Found answer)
   whole_found bytes l h = record { within = λ _. inl h; beyond = λ b. absurd (omega (arith, b, l)) }
 
 -- a certificate that counts, where more follows
@@ -46,7 +46,7 @@ closed_so_far Proof f most answer cert rest b (e, none, c) (s, l) =
     (subst (λ a. FateSoFar Proof f ((cert ++ b ∷ []) ++ rest) most (Some (Found a))) (sym e) (stays_found Proof f most Unsat (cert ++ b ∷ []) rest (omega (arith, l, len)) (text_followed f cert b s none c)))
 closed_so_far ProofBinary f most answer cert rest b (e, (front, q, r)) l =
     subst (λ a. FateSoFar ProofBinary f (cert ++ b ∷ rest) most (Some (Found a))) (sym e)
-    (stays_found ProofBinary f most Unsat cert (b ∷ rest) l (subst (λ z. BytesCome ProofBinary f false z (Some (Found Unsat))) (sym q) (binary_closed f front r)))
+    (stays_found ProofBinary f most Unsat cert (b ∷ rest) l (subst (λ z. BytesFate ProofBinary f false z (Some (Found Unsat))) (sym q) (binary_closed f front r)))
 
 -- and where the stream ends with it
 closed_whole : (kind : StreamKind) (f : FormulaOf) (most : ℕ) (answer : Answer) (cert : List ℕ) → IsClosedCert kind f cert answer → Counts kind most cert [] → FateOf kind f cert most (Found answer)
@@ -57,7 +57,7 @@ closed_whole ProofBinary f most answer cert (e, (front, q, r)) l =
     subst (λ a. FateOf ProofBinary f cert most (Found a)) (sym e)
     (fate_at_end ProofBinary f most cert (Found Unsat)
     (subst (λ z. FateSoFar ProofBinary f z most (Some (Found Unsat))) (append-nil cert)
-    (stays_found ProofBinary f most Unsat cert [] l (subst (λ z. BytesCome ProofBinary f false z (Some (Found Unsat))) (sym q) (binary_closed f front r)))))
+    (stays_found ProofBinary f most Unsat cert [] l (subst (λ z. BytesFate ProofBinary f false z (Some (Found Unsat))) (sym q) (binary_closed f front r)))))
 
 closed_found : (kind : StreamKind) (f : FormulaOf) (most : ℕ) (answer : Answer) (cert rest : List ℕ) → IsClosedCert kind f cert answer → Counts kind most cert rest → FateOf kind f (cert ++ rest) most (Found answer)
 closed_found kind f most answer cert [] c l = subst (λ z. FateOf kind f z most (Found answer)) (sym (append-nil cert)) (closed_whole kind f most answer cert c l)
@@ -111,7 +111,7 @@ module _ (kind : StreamKind) (f : FormulaOf) (most : ℕ) (answer : Answer) wher
   abbrev Closed : Bool → List ℕ → Type 0
   Closed ended bytes = (cert : List ℕ) × (rest : List ℕ) × (bytes ≡ cert ++ rest) × IsClosedCert kind f cert answer × Follows kind ended rest
 
-  begins_by : ((bytes : List ℕ) → BytesCome kind f false bytes (Some (Found answer)) → Closed false bytes) → ((bytes : List ℕ) → BytesCome kind f true bytes (Some (Found answer)) → Closed true bytes ⊎ IsOpenCert kind f bytes answer)
+  begins_by : ((bytes : List ℕ) → BytesFate kind f false bytes (Some (Found answer)) → Closed false bytes) → ((bytes : List ℕ) → BytesFate kind f true bytes (Some (Found answer)) → Closed true bytes ⊎ IsOpenCert kind f bytes answer)
       → (stream : List ℕ) → FateOf kind f stream most (Found answer) → BeginsCert kind f stream most answer
   begins_by more all stream h =
       elim (sides (length stream) most) [
@@ -140,14 +140,14 @@ module _ (kind : StreamKind) (f : FormulaOf) (most : ℕ) (answer : Answer) wher
           )
 
 -- DRUP text and hinted text
-more_found : (kind : StreamKind) (f : FormulaOf) (answer : Answer) (s rest : List ℕ) → BytesCome kind f false s (Some (Found answer)) → BytesCome kind f false (s ++ rest) (Some (Found answer))
+more_found : (kind : StreamKind) (f : FormulaOf) (answer : Answer) (s rest : List ℕ) → BytesFate kind f false s (Some (Found answer)) → BytesFate kind f false (s ++ rest) (Some (Found answer))
 more_found kind f answer s rest h = (laws kind f).on false s rest (Found answer) h
 
-drup_parts : (f : FormulaOf) (answer : Answer) (ended : Bool) (s : List ℕ) → BytesCome Drup f ended s (Some (Found answer)) → Closed Drup f 0 answer ended s
-drup_parts f answer = parts (λ ended s. BytesCome Drup f ended s (Some (Found answer))) (λ c. IsClosedCert Drup f c answer) (λ ended s h. drup_found f answer ended s h) (more_found Drup f answer) (λ s c. drup_zero f answer s c)
+drup_parts : (f : FormulaOf) (answer : Answer) (ended : Bool) (s : List ℕ) → BytesFate Drup f ended s (Some (Found answer)) → Closed Drup f 0 answer ended s
+drup_parts f answer = parts (λ ended s. BytesFate Drup f ended s (Some (Found answer))) (λ c. IsClosedCert Drup f c answer) (λ ended s h. drup_found f answer ended s h) (more_found Drup f answer) (λ s c. drup_zero f answer s c)
 
-lrat_parts : (f : FormulaOf) (answer : Answer) (ended : Bool) (s : List ℕ) → BytesCome Lrat f ended s (Some (Found answer)) → Closed Lrat f 0 answer ended s
-lrat_parts f answer = parts (λ ended s. BytesCome Lrat f ended s (Some (Found answer))) (λ c. IsClosedCert Lrat f c answer) (λ ended s h. lrat_found f answer ended s h) (more_found Lrat f answer) (λ s c. lrat_zero f answer s c)
+lrat_parts : (f : FormulaOf) (answer : Answer) (ended : Bool) (s : List ℕ) → BytesFate Lrat f ended s (Some (Found answer)) → Closed Lrat f 0 answer ended s
+lrat_parts f answer = parts (λ ended s. BytesFate Lrat f ended s (Some (Found answer))) (λ c. IsClosedCert Lrat f c answer) (λ ended s h. lrat_found f answer ended s h) (more_found Lrat f answer) (λ s c. lrat_zero f answer s c)
 
 fate_begins : (kind : StreamKind) (f : FormulaOf) (stream : List ℕ) (most : ℕ) (answer : Answer) → FateOf kind f stream most (Found answer) → BeginsCert kind f stream most answer
 fate_begins Drup f stream most answer h = begins_by Drup f most answer (λ bytes k. drup_parts f answer false bytes k) (λ bytes k. inl (drup_parts f answer true bytes k)) stream h

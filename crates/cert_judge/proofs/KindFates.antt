@@ -9,7 +9,7 @@ use Rattle.cnf_form.proofs.Reading.{IsDimacs-one}
 use Rattle.proof_stream.specs.declared.spot.Form.TheVariants.{Text, Binary}
 use Rattle.sby_terms.specs.declared.names.Answer.TheVariants.{Sat, Unsat}
 use Rattle.cert_judge.specs.Fate.{Fate, Found}
-use Rattle.cert_judge.specs.Kinds.{BytesCome, FateOf, FateSoFar, IsFate, IsFateSoFar, stream_values, values_named}
+use Rattle.cert_judge.specs.Kinds.{BytesFate, FateOf, FateSoFar, IsFate, IsFateSoFar, stream_values, values_named}
 use Rattle.cert_judge.specs.declared.stream.StreamKind.{StreamKind}
 use Rattle.cert_judge.specs.declared.stream.StreamKind.TheVariants.{Drup, Lrat, Proof, ProofBinary}
 use Rattle.cert_judge.proofs.Bounding.{at_end_by, found_by, found_so_far_by, one_by, one_so_far_by, sides, somewhere_by, somewhere_so_far_by, stays_by, take_past, within_by}
@@ -19,7 +19,7 @@ use Rattle.cert_judge.proofs.KindLaws.{Laws}
 use Rattle.cert_judge.proofs.LratFates.{lrat_laws}
 
 -- the laws of each kind
-pub laws : (kind : StreamKind) (f : FormulaOf) → Laws f (BytesCome kind f) (values_named kind f.vars)
+pub laws : (kind : StreamKind) (f : FormulaOf) → Laws f (BytesFate kind f) (values_named kind f.vars)
 laws Drup f = drup_laws f
 laws Lrat f = lrat_laws f
 laws Proof f = file_laws Text f
@@ -27,7 +27,7 @@ laws ProofBinary f = file_laws Binary f
 
 module _ (kind : StreamKind) (f : FormulaOf) (most : ℕ) where
   abbrev come : Bool → List ℕ → Option Fate → Type 0
-  come = BytesCome kind f
+  come = BytesFate kind f
 
   comes_at_end : (bytes : List ℕ) (x : Fate) → come false bytes (Some x) → come true bytes (Some x)
   comes_at_end bytes x h = subst (λ z. come true z (Some x)) (append-nil bytes) ((laws kind f).on true bytes [] x h)
@@ -115,7 +115,7 @@ pub within_most : (kind : StreamKind) (job bytes : List ℕ) (most : ℕ) → Is
 within_most kind job bytes most (f, d, h) = within_so_far kind f most bytes h
 
 pub proof_never_satisfied : (job stream : List ℕ) (most : ℕ) → IsFate Proof job stream most (Found Sat) → ⊥
-proof_never_satisfied job stream most (f, d, h) = found_by (BytesCome Proof f) most Sat (file_never Text f) stream h
+proof_never_satisfied job stream most (f, d, h) = found_by (BytesFate Proof f) most Sat (file_never Text f) stream h
 
 pub binary_never_satisfied : (job stream : List ℕ) (most : ℕ) → IsFate ProofBinary job stream most (Found Sat) → ⊥
-binary_never_satisfied job stream most (f, d, h) = found_by (BytesCome ProofBinary f) most Sat (file_never Binary f) stream h
+binary_never_satisfied job stream most (f, d, h) = found_by (BytesFate ProofBinary f) most Sat (file_never Binary f) stream h

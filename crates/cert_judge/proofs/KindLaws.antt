@@ -1,4 +1,4 @@
--- What is proved of what bytes come to, once for each kind.
+-- What is proved of the fate of bytes, once for each kind.
 use Rattle.std.proofs.Common.{◌≡◌, ℕ, Bool, false, List, ◌++◌, Some}
 use Rattle.std.specs.Prelude.{Option}
 use Rattle.cnf_form.specs.Cnf.{Assignment, FormulaOf, IsUnsatisfiable, Satisfies}

@@ -9,7 +9,7 @@ use Rattle.cert_stream.specs.declared.feeding.Fed.TheVariants.{More, Stopped}
 use Rattle.cert_stream.specs.declared.mode.ParseFault.{ParseFault}
 use Rattle.cert_judge.specs.Certificate.{CertificateOf, with_outcome}
 use Rattle.cert_judge.specs.Fate.{Fate, Bad, cert_kind}
-use Rattle.cert_judge.specs.Leading.{ComesBy, Heard, Hears, IsAt, Leads, NamesBy, concluded}
+use Rattle.cert_judge.specs.Leading.{FateFrom, Heard, Hears, AwaitsMore, Leads, NamesBy, concluded}
 use Rattle.cert_judge.specs.Lines.{AreValuesTold}
 use Rattle.cert_judge.specs.Outcomes.{fate_of, fate_told}
 use Rattle.cert_judge.specs.Reading.{Meaning, Parsing}
@@ -62,7 +62,7 @@ module _ {S C : Type 0} (m : Meaning S C) where
         size = k.size ∙ h.size;
         fate = λ rest fate g.
             subst (λ (s : List S). m.comes x.formula x.checker (values_of x.bits) s fate) (sym (append_assoc ss ts rest))
-            (h.fate (ts ++ rest) fate (subst (λ o. ComesBy m y o (ts ++ rest) fate) (sym e) (k.fate rest fate g)));
+            (h.fate (ts ++ rest) fate (subst (λ o. FateFrom m y o (ts ++ rest) fate) (sym e) (k.fate rest fate g)));
         values = λ rest a g.
             subst (λ (s : List S). named_from (values_of x.bits) (m.lits s) ≡ a) (sym (append_assoc ss ts rest))
             (h.values (ts ++ rest) a (subst (λ o. NamesBy m y o (ts ++ rest) a) (sym e) (k.values rest a g)));
@@ -71,8 +71,8 @@ module _ {S C : Type 0} (m : Meaning S C) where
 
   -- after an outcome all else is nothing
   module _ (x y : CertificateOf C) (ss more : List S) (o : Outcome) (h : Leads m x ss y) (e : y.outcome ≡ Some o) where
-    fate_ever : (a b : List S) (fate : Option Fate) → ComesBy m y y.outcome a fate → ComesBy m y y.outcome b fate
-    fate_ever a b fate g = subst (λ k. ComesBy m y k b fate) (sym e) (subst (λ k. ComesBy m y k a fate) e g)
+    fate_ever : (a b : List S) (fate : Option Fate) → FateFrom m y y.outcome a fate → FateFrom m y y.outcome b fate
+    fate_ever a b fate g = subst (λ k. FateFrom m y k b fate) (sym e) (subst (λ k. FateFrom m y k a fate) e g)
 
     names_ever : (a b : List S) (v : Assignment) → NamesBy m y y.outcome a v → NamesBy m y y.outcome b v
     names_ever a b v g = subst (λ k. NamesBy m y k b v) (sym e) (subst (λ k. NamesBy m y k a v) e g)
@@ -111,7 +111,7 @@ module _ {S C : Type 0} (m : Meaning S C) where
           formula = h.formula;
           size = h.size;
           fate = λ rest fate g. subst (λ (z : List S). m.comes x.formula x.checker (values_of x.bits) z fate) (sym (append_assoc ss (m.fault_said (Some w)) rest))
-              (h.fate (m.fault_said (Some w) ++ rest) fate (subst (λ o. ComesBy m y o (m.fault_said (Some w) ++ rest) fate) (sym e) (comes_fault y.formula y.checker (values_of y.bits) w rest fate g)));
+              (h.fate (m.fault_said (Some w) ++ rest) fate (subst (λ o. FateFrom m y o (m.fault_said (Some w) ++ rest) fate) (sym e) (comes_fault y.formula y.checker (values_of y.bits) w rest fate g)));
           values = λ rest a g. absurd (let k = g.0 in cc);
           satisfied = λ s. cc;
         }
@@ -150,19 +150,19 @@ module _ {S C : Type 0} (m : Meaning S C) where
         subst (Leads m x (ss ++ m.fault_said fault)) (sym e) (heard_answer x y ss fed fault l.0 l.1 a).0
 
   -- from the beginning of a stream
-  module _ {W : Type 0} (p : Parsing W S) (start w : W) (c : CertificateOf C) (bytes : List ℕ) (h : IsAt p m start w c bytes) (more : List S) (d : CertificateOf C) (l : Leads m c more d) where
-    comes_by : (fate : Option Fate) → ComesBy m d d.outcome [] fate → m.begins c.formula (p.said start bytes ++ more) fate
+  module _ {W : Type 0} (p : Parsing W S) (start w : W) (c : CertificateOf C) (bytes : List ℕ) (h : AwaitsMore p m start w c bytes) (more : List S) (d : CertificateOf C) (l : Leads m c more d) where
+    comes_by : (fate : Option Fate) → FateFrom m d d.outcome [] fate → m.begins c.formula (p.said start bytes ++ more) fate
     comes_by fate g =
         let k = subst (λ (z : List S). m.comes c.formula c.checker (values_of c.bits) z fate) (append-nil more) (l.fate [] fate g) in
         h.fate more fate k
 
-    -- what all comes to; nothing is said after nothing
+    -- the fate of all; nothing is said after nothing
     pub comes_told : ((f : FormulaOf) (e : C) (x : Assignment) → m.comes f e x [] None) → m.begins c.formula (p.said start bytes ++ more) (fate_told d.outcome)
     comes_told nothing = by d.outcome refl
       where
         by : (o : Option Outcome) → d.outcome ≡ o → m.begins c.formula (p.said start bytes ++ more) (fate_told o)
-        by None n = comes_by None (subst (λ z. ComesBy m d z [] None) (sym n) (nothing d.formula d.checker (values_of d.bits)))
-        by (Some o) n = comes_by (Some (fate_of o)) (subst (λ z. ComesBy m d z [] (Some (fate_of o))) (sym n) refl)
+        by None n = comes_by None (subst (λ z. FateFrom m d z [] None) (sym n) (nothing d.formula d.checker (values_of d.bits)))
+        by (Some o) n = comes_by (Some (fate_of o)) (subst (λ z. FateFrom m d z [] (Some (fate_of o))) (sym n) refl)
 
     values_by : d.outcome ≡ Some Satisfied → values_of d.bits ≡ named_from unnamed (m.lits (p.said start bytes ++ more))
     values_by n =
@@ -181,7 +181,7 @@ module _ {S C : Type 0} (m : Meaning S C) where
 
   -- a piece without an outcome
   module _ {W : Type 0} (p : Parsing W S) (said_append : (w : W) (a b : List ℕ) → p.said w (a ++ b) ≡ p.said w a ++ p.said (p.after w a) b) (after_append : (w : W) (a b : List ℕ) → p.after w (a ++ b) ≡ p.after (p.after w a) b)
-      (none_said : m.fault_said None ≡ []) (start w v : W) (c d : CertificateOf C) (bytes piece : List ℕ) (h : IsAt p m start w c bytes) (g : Heard p m w c piece v d) where
+      (none_said : m.fault_said None ≡ []) (start w v : W) (c d : CertificateOf C) (bytes piece : List ℕ) (h : AwaitsMore p m start w c bytes) (g : Heard p m w c piece v d) where
     pub said_whole : p.said start (bytes ++ piece) ++ m.fault_said (p.fault (p.after start (bytes ++ piece))) ≡ p.said start bytes ++ (p.said w piece ++ m.fault_said (p.fault (p.after w piece)))
     said_whole =
         ap (λ z. z ++ m.fault_said (p.fault (p.after start (bytes ++ piece)))) (said_append start bytes piece)
@@ -199,7 +199,7 @@ module _ {S C : Type 0} (m : Meaning S C) where
 
       fate_on : (rest : List S) (fate : Option Fate) → m.comes d.formula d.checker (values_of d.bits) rest fate → m.begins d.formula (p.said start (bytes ++ piece) ++ rest) fate
       fate_on rest fate k =
-          let later = g.leads.fate rest fate (subst (λ o. ComesBy m d o rest fate) (sym n) k) in
+          let later = g.leads.fate rest fate (subst (λ o. FateFrom m d o rest fate) (sym n) k) in
           subst (λ (f : FormulaOf). m.begins f (p.said start (bytes ++ piece) ++ rest) fate) (sym g.leads.formula)
           (subst (λ (z : List S). m.begins c.formula z fate) (nothing_else rest) (h.fate ((p.said w piece ++ m.fault_said (p.fault (p.after w piece))) ++ rest) fate later))
 
@@ -209,7 +209,7 @@ module _ {S C : Type 0} (m : Meaning S C) where
           let k = g.leads.values rest x (subst (λ o. NamesBy m d o rest x) (sym n) refl) in
           sym k ∙ h.values ((p.said w piece ++ m.fault_said (p.fault (p.after w piece))) ++ rest) ∙ ap (λ z. named_from unnamed (m.lits z)) (nothing_else rest)
 
-      pub at_next : IsAt p m start v d (bytes ++ piece)
+      pub at_next : AwaitsMore p m start v d (bytes ++ piece)
       at_next =
           record {
             parser = g.kept n ∙ ap (λ (u : W). p.after u piece) h.parser ∙ sym (after_append start bytes piece);

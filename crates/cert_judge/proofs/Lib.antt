@@ -1,4 +1,5 @@
 pub mod Valuing
+pub mod Naming
 pub mod Bounding
 pub mod Deletions
 pub mod Numbering

@@ -30,14 +30,14 @@ use Rattle.sby_terms.specs.declared.names.Answer.{Answer}
 use Rattle.sby_terms.specs.declared.names.Answer.TheVariants.{Sat, Unsat}
 use Rattle.cert_judge.specs.Values.{named, named_from, unnamed}
 use Rattle.cert_judge.specs.Fate.{Found}
-use Rattle.cert_judge.specs.Lrat.{ByHints, Comes, ComesTo, Held, HintsComeTo, added, deleted, first_bad, held_first, ids_of, is_good}
+use Rattle.cert_judge.specs.Lrat.{ByHints, StreamFate, SayingsFate, Held, HintsFate, added, deleted, first_bad, held_first, ids_of, is_good}
 use Rattle.cert_judge.specs.Kinds.{FateOf}
 use Rattle.cert_judge.specs.declared.stream.StreamKind.TheVariants.{Lrat}
 use Rattle.cert_judge.specs.DrupCert.{words, IsEnded, IsIdle, IsRemark, Names, Writes}
 use Rattle.cert_judge.specs.LratCert.{AreIds, AreLive, IsAdmittedAs, IsCertOf, IsClauseLine, IsDeletionLine, IsRefutation, Leads, WriteIds, held_without}
 use Rattle.cert_judge.proofs.DrupLines.{AreDoneBut, but_rest, done_all, done_but, done_front, ends_at, line_texts, texts}
 use Rattle.cert_judge.proofs.LratCerts.{none_heard, without_ids}
-use Rattle.cert_judge.proofs.Valuing.{named_append}
+use Rattle.cert_judge.proofs.Naming.{names_found}
 
 -- words in two parts
 pub record Parted (ws : List Word) (front back : List (List ℕ)) : Type 0 where
@@ -144,7 +144,7 @@ hinted_first vars counted broken going more w ws d c v s = rw (c, v, s, d) refl
 
 module _ (vars : ℕ) (C : List (List LitOf)) (a : Answer) where
   abbrev Finds : Held → Assignment → List LratSaying → Type 0
-  Finds F x ss = ComesTo C F x ss (Some (Found a))
+  Finds F x ss = SayingsFate C F x ss (Some (Found a))
 
   -- the values of a line are named
   values_named : (F : Held) (x : Assignment) (lits : List LitOf) (ss : List LratSaying) → Finds F (named_from x lits) ss → Finds F x (flat_map (heard_says ValuesList) lits ++ ss)
@@ -386,13 +386,13 @@ module _ (vars : ℕ) (C : List (List LitOf)) (a : Answer) where
   abbrev rest_says : ℕ → List ℕ → List (List ℕ) → Bool → List LratSaying
   rest_says at t ls amid = lines_say vars true amid (at + length t + 1) ls
 
-  -- what an admitted clause comes to
+  -- the fate of an admitted clause
   clause_comes : (F : Held) (id : ℕ) (c : List LitOf) (ids : List ℕ) (got : List Hint) (place : ℕ) (x : Assignment) (ss : List LratSaying) → HintsAre ids got → IsAdmittedAs F id c ids
       → ((c ≡ []) × (a ≡ Unsat)) ⊎ ((c ≢ []) × Finds (added F id c) x ss) → Finds F x (IsClause id c got place ∷ ss)
   clause_comes F id c ids got place x ss g (above, live, hinted) h =
-      inr (above, subst (λ o. ByHints o (HintsComeTo F.live c got place (Finds (added F id c) x ss) (Some (Found a))) (Some (Found a))) (sym (none_bad F.live ids got g live)) (tried h))
+      inr (above, subst (λ o. ByHints o (HintsFate F.live c got place (Finds (added F id c) x ss) (Some (Found a))) (Some (Found a))) (sym (none_bad F.live ids got g live)) (tried h))
     where
-      tried : ((c ≡ []) × (a ≡ Unsat)) ⊎ ((c ≢ []) × Finds (added F id c) x ss) → HintsComeTo F.live c got place (Finds (added F id c) x ss) (Some (Found a))
+      tried : ((c ≡ []) × (a ≡ Unsat)) ⊎ ((c ≢ []) × Finds (added F id c) x ss) → HintsFate F.live c got place (Finds (added F id c) x ss) (Some (Found a))
       tried (inl (n, e)) = inl (subst (λ z. IsHinted F.live c z) (sym (hints_ids ids got g)) hinted, n, ap (λ k. Some (Found k)) e)
       tried (inr (n, k)) = inr (inl (subst (λ z. IsHinted F.live c z) (sym (hints_ids ids got g)) hinted, n, k))
 
@@ -433,35 +433,22 @@ module _ (vars : ℕ) (C : List (List LitOf)) (a : Answer) where
       let s = clause_last at t id [] ids (subst (λ z. IsClauseLine vars z id [] ids) (sym q) d) in
       subst (λ (ss : List LratSaying). Finds G unnamed ss) (sym s.3) (clause_comes G id [] ids s.1 s.0 unnamed [] s.2 b (inl (refl, n)))
 
+  remark_next : (at : ℕ) (t u : List ℕ) (ts : List (List ℕ)) (amid : Bool) → IsRemark (words t) → lines_say vars true amid at (t ∷ u ∷ ts) ≡ rest_says at t (u ∷ ts) amid
+  remark_next at t u ts amid r =
+      remark_line at t (fault_at at t) (rest_says at t (u ∷ ts) true) (rest_says at t (u ∷ ts) false) amid (words_from true at [] t) (subst IsRemark (sym (line_texts true at t)) r) ∙ same amid
+    where
+      same : (b : Bool) → cond b (rest_says at t (u ∷ ts) true) (rest_says at t (u ∷ ts) false) ≡ rest_says at t (u ∷ ts) b
+      same true = refl
+      same false = refl
+
   -- the lines of values that satisfy the clauses
   values_found : (G : Held) (amid : Bool) (x : Assignment) (at : ℕ) (ls : List (List ℕ)) (end : List (List (List ℕ))) (values : List LitOf) → a ≡ Sat → map words ls ≡ end
       → Names vars end values → Satisfies (named_from x values) C → Finds G x (lines_say vars true amid at ls)
-  values_found G amid x at ls [] values n e k s = absurd k
-  values_found G amid x at [] (ws ∷ end) values n e k s = cc
-  values_found G amid x at (t ∷ u ∷ ts) (ws ∷ []) values n e k s = cc
-  values_found G amid x at (t ∷ []) (ws ∷ vs ∷ end) values n e k s = cc
-  values_found G amid x at (t ∷ []) (ws ∷ []) values n e (rest, v, d) s =
-      let q : words t ≡ ws = cc in
-      subst (λ (ss : List LratSaying). Finds G x ss) (sym (values_last at t amid rest values (q ∙ v) d)) (values_named G x values (IsValuesEnd ∷ []) (inl (s, ap (λ k. Some (Found k)) n)))
-  values_found G amid x at (t ∷ u ∷ ts) (ws ∷ vs ∷ end) values n e k s =
-      let q : words t ≡ ws = cc in
-      let m : map words (u ∷ ts) ≡ vs ∷ end = cc in
-      line q k (λ b y values r p. values_found G b y (at + length t + 1) (u ∷ ts) (vs ∷ end) values n m r p)
-    where
-      same : (b : Bool) → Finds G x (rest_says at t (u ∷ ts) b) → Finds G x (cond b (rest_says at t (u ∷ ts) true) (rest_says at t (u ∷ ts) false))
-      same true h = h
-      same false h = h
+  values_found G amid x at ls end values n =
+      names_found vars C (Finds G) (lines_say vars true) (flat_map (heard_says ValuesList)) (IsValuesEnd ∷ []) (λ y s. inl (s, ap (λ k. Some (Found k)) n)) (values_named G) values_last remark_next
+      (λ o t u ts b. open_line o t (fault_at o t) (rest_says o t (u ∷ ts) true) (rest_says o t (u ∷ ts) false) b) amid x at ls end values
 
-      line : words t ≡ ws → Names vars (ws ∷ vs ∷ end) values
-          → ((b : Bool) (y : Assignment) (more : List LitOf) → Names vars (vs ∷ end) more → Satisfies (named_from y more) C → Finds G y (rest_says at t (u ∷ ts) b))
-          → Finds G x (lines_say vars true amid at (t ∷ u ∷ ts))
-      line q (inl (r, m)) h =
-          subst (λ (ss : List LratSaying). Finds G x ss) (sym (remark_line at t (fault_at at t) (rest_says at t (u ∷ ts) true) (rest_says at t (u ∷ ts) false) amid (words_from true at [] t) (subst IsRemark (sym (line_texts true at t ∙ q)) r))) (same amid (h amid x values m s))
-      line q (inr (us, c, b, v, k, l, e, m)) h =
-          let y = subst (λ i. Satisfies i C) (ap (named_from x) e ∙ named_append x c b) s in
-          subst (λ (ss : List LratSaying). Finds G x ss) (sym (open_line at t (fault_at at t) (rest_says at t (u ∷ ts) true) (rest_says at t (u ∷ ts) false) amid us c (q ∙ v) k l)) (values_named G x c (rest_says at t (u ∷ ts) true) (h true (named_from x c) b m y))
-
-cert_comes : (f : FormulaOf) (s : List ℕ) (a : Answer) → IsCertOf f s a → Comes f (sayings f.vars true s) (Some (Found a))
+cert_comes : (f : FormulaOf) (s : List ℕ) (a : Answer) → IsCertOf f s a → StreamFate f (sayings f.vars true s) (Some (Found a))
 cert_comes f s Unsat (proof, last, G, e, k, d) =
     proof_found f.vars f.clauses Unsat G last [] (refutation_found f.vars f.clauses Unsat G last d refl) 0 (held_first f.clauses) (lines_of s) proof e k
 cert_comes f s Sat (proof, [], G, values, e, k, n, m) = absurd n

@@ -12,7 +12,7 @@ use Rattle.cert_stream.specs.Stream.{is_unknown}
 use Rattle.cert_stream.specs.LratMachine.{most_hints, takes_minus}
 use Rattle.cert_stream.specs.LratScan.{own_next, part_next}
 use Rattle.cert_stream.specs.LratTelling.{LratSaying, IsClause, IsValuesEnd, IsUnknown}
-use Rattle.cert_stream.specs.LratLines.{alone, bad, behind_says, heard_says, ids_ended, ids_say, line_says, lines_say, lits_ended, lits_say, named_says, plain_says, sayings, status_says, unended_says}
+use Rattle.cert_stream.specs.LratLines.{alone, bad, after_says, heard_says, ids_ended, ids_say, line_says, lines_say, lits_ended, lits_say, named_says, plain_says, sayings, status_says, unended_says}
 use Rattle.cert_stream.specs.declared.lrat.mode.Hint.{Hint}
 use Rattle.cert_stream.specs.declared.lrat.mode.LitList.{LitList}
 use Rattle.cert_stream.specs.declared.lrat.mode.LitList.TheVariants.{Clause as ClauseList, Values as ValuesList}
@@ -32,7 +32,7 @@ use Rattle.sby_terms.specs.declared.names.Answer.{Answer}
 use Rattle.sby_terms.specs.declared.names.Answer.TheVariants.{Sat, Unsat}
 use Rattle.cert_judge.specs.Values.{named, named_from, unnamed}
 use Rattle.cert_judge.specs.Fate.{Found}
-use Rattle.cert_judge.specs.Lrat.{ByHints, Comes, ComesTo, Held, HintsComeTo, added, deleted, first_bad, held_first, ids_of, is_good, without}
+use Rattle.cert_judge.specs.Lrat.{ByHints, StreamFate, SayingsFate, Held, HintsFate, added, deleted, first_bad, held_first, ids_of, is_good, without}
 use Rattle.cert_judge.specs.DrupCert.{words, lines, IsIdle, IsRemark, Writes, Names}
 use Rattle.cert_judge.specs.LratCert.{AreIds, AreLive, IsAdmittedAs, IsCertOf, IsClauseLine, IsDeletionLine, IsRefutation, Leads, WriteIds, held_without, live_without}
 use Rattle.cert_judge.proofs.DrupLines.{AreFull, IsNext, full, line_texts, texts}
@@ -186,7 +186,7 @@ module _ (kind : IdList) (counted : Bool) (broken more : List LratSaying) (place
     pub got : List Hint
     pub ends : Nothing said
         ⊎ (said ≡ broken)
-        ⊎ ((front : List (List ℕ)) × (rest : List Word) × (said ≡ ids_ended kind place id lits got ∷ behind_says more rest) × (all ≡ front ++ codes "0" ∷ texts rest) × WriteHints kind front got
+        ⊎ ((front : List (List ℕ)) × (rest : List Word) × (said ≡ ids_ended kind place id lits got ∷ after_says more rest) × (all ≡ front ++ codes "0" ∷ texts rest) × WriteHints kind front got
         × (length got ≤ most_hints))
 
   no_ids : (all : List (List ℕ)) (said : List LratSaying) → Nothing said → IdsListed all said
@@ -251,7 +251,7 @@ module _ (vars : ℕ) (C : List (List LitOf)) where
 
   module _ (a : Answer) where
     abbrev Finds : Held → Assignment → List LratSaying → Type 0
-    Finds F x ss = ComesTo C F x ss (Some (Found a))
+    Finds F x ss = SayingsFate C F x ss (Some (Found a))
 
     abbrev NamesUpto : Assignment → List (List ℕ) → Type 0
     NamesUpto x ls = (a ≡ Sat) × Upto (NameLines x) ls
@@ -266,9 +266,9 @@ module _ (vars : ℕ) (C : List (List LitOf)) where
     fault_found : (F : Held) (x : Assignment) (kind : ParseFaultKind) (n : ℕ) → Finds F x (bad kind n) → ⊥
     fault_found F x kind n h = cc
 
-    behind_found : (F : Held) (x : Assignment) (rest : List Word) (more : List LratSaying) → Finds F x (behind_says more rest) → (rest ≡ []) × Finds F x more
-    behind_found F x [] more h = (refl, h)
-    behind_found F x (w ∷ rest) more h = absurd (fault_found F x BadLine w.place h)
+    after_found : (F : Held) (x : Assignment) (rest : List Word) (more : List LratSaying) → Finds F x (after_says more rest) → (rest ≡ []) × Finds F x more
+    after_found F x [] more h = (refl, h)
+    after_found F x (w ∷ rest) more h = absurd (fault_found F x BadLine w.place h)
 
     named_back : (F : Held) (x : Assignment) (lits : List LitOf) (ss : List LratSaying) → Finds F x (flat_map (heard_says ValuesList) lits ++ ss) → Finds F (named_from x lits) ss
     named_back F x [] ss h = h
@@ -287,7 +287,7 @@ module _ (vars : ℕ) (C : List (List LitOf)) where
         values_now = subst (λ z. Finds F (named_from x z) k.tail) (sym k.gets) (named_back F x k.new k.tail (subst (λ (z : List LratSaying). Finds F x z) k.are h))
 
         values_end : (front : List (List ℕ)) (rest : List Word) → texts vs ≡ front ++ codes "0" ∷ texts rest → Writes vars front k.got → length k.got ≤ vars
-            → ComesTo C F (named_from x k.got) (IsValuesEnd ∷ behind_says more rest) (Some (Found a)) → NamesUpto x (t ∷ ls)
+            → SayingsFate C F (named_from x k.got) (IsValuesEnd ∷ after_says more rest) (Some (Found a)) → NamesUpto x (t ∷ ls)
         values_end front rest e w l (inl (s, q)) = (
           (let g : a ≡ Sat = cc in g),
           upto_now (NameLines x) t ls (codes "v" ∷ front) (texts rest) (v ∙ ap (λ z. codes "v" ∷ z) e) (k.got, (front ++ codes "0" ∷ [], refl, (front, refl, w, l)), s),
@@ -355,9 +355,9 @@ module _ (vars : ℕ) (C : List (List LitOf)) where
         -- a hinted line, whose own id is that of the word o
         module _ (o : List ℕ) (id : ℕ) (named : id_of o ≡ Some id) where
           deletion_end : (got : List Hint) (front : List (List ℕ)) (vs rest : List Word) → words t ≡ o ∷ codes "d" ∷ texts vs → texts vs ≡ front ++ codes "0" ∷ texts rest → WriteHints Deletion front got
-              → length got ≤ most_hints → Finds (deleted F got) x (behind_says more rest) → CertUpto x F (t ∷ ls)
+              → length got ≤ most_hints → Finds (deleted F got) x (after_says more rest) → CertUpto x F (t ∷ ls)
           deletion_end got front vs rest v e w l k =
-              let b = behind_found (deleted F got) x rest more k in
+              let b = after_found (deleted F got) x rest more k in
               let q : texts vs ≡ front ++ codes "0" ∷ [] = e ∙ ap (λ z. front ++ codes "0" ∷ texts z) b.0 in
               let n : length (ids_of got) ≤ most_hints = subst (λ z. z ≤ most_hints) (sym (count_ids got)) l in
               let line : IsDeletionLine (words t) (ids_of got) = (o, id, texts vs, v, named, (front, q, deleted_ids front got w, n)) in
@@ -397,20 +397,20 @@ module _ (vars : ℕ) (C : List (List LitOf)) where
                 (id, ids_of got, subst (λ k. IsClauseLine vars (all ++ codes "0" ∷ []) id k (ids_of got)) z line, subst (λ k. IsAdmittedAs F id k (ids_of got)) z (admitted_as admitted)) in
                 upto_now (CertLines x F a) t ls all (texts rest) q (last_cert x F a (all ++ codes "0" ∷ []) unsat last)
 
-            clause_end : (place : ℕ) → HintsComeTo F.live c got place (Finds (added F id c) x (behind_says more rest)) (Some (Found a)) → CertUpto x F (t ∷ ls)
+            clause_end : (place : ℕ) → HintsFate F.live c got place (Finds (added F id c) x (after_says more rest)) (Some (Found a)) → CertUpto x F (t ∷ ls)
             clause_end place (inl (d, z, k)) = refuting (let g : a ≡ Unsat = cc in g) d z
             clause_end place (inr (inl (d, z, k))) =
-                let b = behind_found (added F id c) x rest more k in
+                let b = after_found (added F id c) x rest more k in
                 let q : words t ≡ o ∷ ((front ++ codes "0" ∷ []) ++ (hints ++ codes "0" ∷ [])) = e ∙ ap (λ z. o ∷ ((front ++ codes "0" ∷ []) ++ (hints ++ codes "0" ∷ texts z))) b.0 in
                 upto_later (CertLines x F a) (CertLines x (added F id c) a) t ls
                 (λ us r. cert_step x F (added F id c) a (words t) us (λ G ps g. inr (inl (id, c, ids_of got, clause_line (words t) q, z, admitted_as d, g))) r) (later (added F id c) b.1)
             clause_end place (inr (inr (d, k))) = cc
 
           clause_hints : (place : ℕ) (c : List LitOf) (front hints : List (List ℕ)) (rest : List Word) (got : List Hint) → words t ≡ o ∷ ((front ++ codes "0" ∷ []) ++ (hints ++ codes "0" ∷ texts rest)) → Writes vars front c
-              → length c ≤ vars → length got ≤ most_hints → WriteHints Hints hints got → ComesTo C F x (IsClause id c got place ∷ behind_says more rest) (Some (Found a)) → CertUpto x F (t ∷ ls)
+              → length c ≤ vars → length got ≤ most_hints → WriteHints Hints hints got → SayingsFate C F x (IsClause id c got place ∷ after_says more rest) (Some (Found a)) → CertUpto x F (t ∷ ls)
           clause_hints place c front hints rest got e w l n wrote (inl (i, k)) = cc
           clause_hints place c front hints rest got e w l n wrote (inr (i, k)) =
-              let g = good_hints (first_bad F.live got) (HintsComeTo F.live c got place (Finds (added F id c) x (behind_says more rest)) (Some (Found a))) k in
+              let g = good_hints (first_bad F.live got) (HintsFate F.live c got place (Finds (added F id c) x (after_says more rest)) (Some (Found a))) k in
               clause_end c front hints rest got e w l n (all_good F.live got g.0) i wrote place g.1
 
           hints_upto : (place : ℕ) (c : List LitOf) (front : List (List ℕ)) (us : List Word) → words t ≡ o ∷ (front ++ codes "0" ∷ texts us) → Writes vars front c → length c ≤ vars
@@ -526,7 +526,7 @@ certifies f s Unsat h = h
 certifies f s Sat h = h
 
 -- up to a word 0, and what follows it
-pub cert_found : (f : FormulaOf) (a : Answer) (ended : Bool) (s : List ℕ) → Comes f (sayings f.vars ended s) (Some (Found a)) → (n : ℕ) × (n ≤ length s) × IsCertOf f (take n s) a × IsNext (drop n s)
+pub cert_found : (f : FormulaOf) (a : Answer) (ended : Bool) (s : List ℕ) → StreamFate f (sayings f.vars ended s) (Some (Found a)) → (n : ℕ) × (n ≤ length s) × IsCertOf f (take n s) a × IsNext (drop n s)
 cert_found f a ended s h =
     let k = upto_cut (CertLines f.vars f.clauses unnamed (held_first f.clauses) a) s (comes_upto f.vars f.clauses a ended 0 (held_first f.clauses) unnamed (lines_of s) h) in
     (k.0, k.1, certifies f (take k.0 s) a k.2, k.3)

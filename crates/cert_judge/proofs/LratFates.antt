@@ -10,7 +10,7 @@ use Rattle.sby_terms.specs.declared.names.Answer.TheVariants.{Sat}
 use Rattle.lrat_check.specs.Hints.{IsHinted, Live}
 use Rattle.cert_stream.specs.declared.lrat.mode.Hint.{Hint}
 use Rattle.cert_judge.specs.Fate.{Fate, Found}
-use Rattle.cert_judge.specs.Lrat.{BytesCome, ByHints, Comes, ComesTo, Held, HintsComeTo, added, deleted, first_bad, held_first, ids_of, value_lits, values_named, values_said}
+use Rattle.cert_judge.specs.Lrat.{BytesFate, ByHints, StreamFate, SayingsFate, Held, HintsFate, added, deleted, first_bad, held_first, ids_of, value_lits, values_named, values_said}
 use Rattle.cert_judge.specs.Values.{named, named_from, unnamed}
 use Rattle.cert_judge.proofs.KindLaws.{Laws}
 use Rattle.cert_judge.proofs.LratComing.{by_hints, refuted_first, satisfied}
@@ -21,12 +21,12 @@ pub hints_more : (o : Option Hint) (A B : Type 0) (fate : Option Fate) → (A �
 hints_more None A B fate g h = g h
 hints_more (Some i) A B fate g h = h
 
-pub tried_more : (live : Live) (lits : List LitOf) (hints : List Hint) (place : ℕ) (A B : Type 0) (fate : Option Fate) → (A → B) → HintsComeTo live lits hints place A fate → HintsComeTo live lits hints place B fate
+pub tried_more : (live : Live) (lits : List LitOf) (hints : List Hint) (place : ℕ) (A B : Type 0) (fate : Option Fate) → (A → B) → HintsFate live lits hints place A fate → HintsFate live lits hints place B fate
 tried_more live lits hints place A B fate g (inl h) = inl h
 tried_more live lits hints place A B fate g (inr (inl (a, n, h))) = inr (inl (a, n, g h))
 tried_more live lits hints place A B fate g (inr (inr h)) = inr (inr h)
 
-pub comes_more : (C : List (List LitOf)) (F : Held) (x : Assignment) (ss more : List LratSaying) (fate : Fate) → ComesTo C F x ss (Some fate) → ComesTo C F x (ss ++ more) (Some fate)
+pub comes_more : (C : List (List LitOf)) (F : Held) (x : Assignment) (ss more : List LratSaying) (fate : Fate) → SayingsFate C F x ss (Some fate) → SayingsFate C F x (ss ++ more) (Some fate)
 comes_more C F x [] more fate h = cc
 comes_more C F x (IsClause id c hints place ∷ ss) more fate (inl h) = inl h
 comes_more C F x (IsClause id c hints place ∷ ss) more fate (inr (l, b)) =
@@ -42,7 +42,7 @@ hints_once : (o : Option Hint) (A B : Type 0) (x y : Option Fate) → (A → B �
 hints_once None A B x y g h k = g h k
 hints_once (Some i) A B x y g h k = h ∙ sym k
 
-tried_once : (live : Live) (lits : List LitOf) (hints : List Hint) (place : ℕ) (A B : Type 0) (x y : Option Fate) → (A → B → x ≡ y) → HintsComeTo live lits hints place A x → HintsComeTo live lits hints place B y → x ≡ y
+tried_once : (live : Live) (lits : List LitOf) (hints : List Hint) (place : ℕ) (A B : Type 0) (x y : Option Fate) → (A → B → x ≡ y) → HintsFate live lits hints place A x → HintsFate live lits hints place B y → x ≡ y
 tried_once live lits hints place A B x y g (inl (a, e, h)) (inl (b, f, k)) = h ∙ sym k
 tried_once live lits hints place A B x y g (inl (a, e, h)) (inr (inl (b, f, k))) = absurd (f e)
 tried_once live lits hints place A B x y g (inl (a, e, h)) (inr (inr (b, k))) = absurd (b a)
@@ -53,7 +53,7 @@ tried_once live lits hints place A B x y g (inr (inr (a, h))) (inl (b, f, k)) = 
 tried_once live lits hints place A B x y g (inr (inr (a, h))) (inr (inl (b, f, k))) = absurd (a b)
 tried_once live lits hints place A B x y g (inr (inr (a, h))) (inr (inr (b, k))) = h ∙ sym k
 
-comes_one : (C : List (List LitOf)) (F : Held) (v : Assignment) (ss : List LratSaying) (x y : Option Fate) → ComesTo C F v ss x → ComesTo C F v ss y → x ≡ y
+comes_one : (C : List (List LitOf)) (F : Held) (v : Assignment) (ss : List LratSaying) (x y : Option Fate) → SayingsFate C F v ss x → SayingsFate C F v ss y → x ≡ y
 comes_one C F v [] x y h k = h ∙ sym k
 comes_one C F v (IsClause id c hints place ∷ ss) x y (inl (l, h)) (inl (m, k)) = h ∙ sym k
 comes_one C F v (IsClause id c hints place ∷ ss) x y (inl (l, h)) (inr (m, k)) = absurd (omega (arith, l, m))
@@ -66,7 +66,7 @@ comes_one C F v (IsValuesEnd ∷ ss) x y h k = values_once C v x y h k
 comes_one C F v (IsUnknown ∷ ss) x y h k = h ∙ sym k
 comes_one C F v (IsFault f ∷ ss) x y h k = h ∙ sym k
 
-pub comes_once : (f : FormulaOf) (ss : List LratSaying) (x y : Option Fate) → Comes f ss x → Comes f ss y → x ≡ y
+pub comes_once : (f : FormulaOf) (ss : List LratSaying) (x y : Option Fate) → StreamFate f ss x → StreamFate f ss y → x ≡ y
 comes_once f ss x y h k = comes_one f.clauses (held_first f.clauses) unnamed ss x y h k
 
 -- some fate
@@ -81,7 +81,7 @@ hints_somewhere : (o : Option Hint) (A : Option Fate → Type 0) → (((x : Opti
 hints_somewhere None A g k = g k
 hints_somewhere (Some i) A g k = k _ refl
 
-tried_somewhere : (live : Live) (c : List LitOf) (hints : List Hint) (place : ℕ) (A : Option Fate → Type 0) → (((x : Option Fate) → A x → ⊥) → ⊥) → ((x : Option Fate) → HintsComeTo live c hints place (A x) x → ⊥) → ⊥
+tried_somewhere : (live : Live) (c : List LitOf) (hints : List Hint) (place : ℕ) (A : Option Fate → Type 0) → (((x : Option Fate) → A x → ⊥) → ⊥) → ((x : Option Fate) → HintsFate live c hints place (A x) x → ⊥) → ⊥
 tried_somewhere live c hints place A g k =
     let unhinted : IsHinted live c (ids_of hints) → ⊥ = λ a. elim (empty_or_not c) [
       | inl e ↦ k _ (inl (a, e, refl))
@@ -89,14 +89,14 @@ tried_somewhere live c hints place A g k =
     ] in
     k _ (inr (inr (unhinted, refl)))
 
-pub comes_somewhere : (C : List (List LitOf)) (F : Held) (v : Assignment) (ss : List LratSaying) → ((x : Option Fate) → ComesTo C F v ss x → ⊥) → ⊥
+pub comes_somewhere : (C : List (List LitOf)) (F : Held) (v : Assignment) (ss : List LratSaying) → ((x : Option Fate) → SayingsFate C F v ss x → ⊥) → ⊥
 comes_somewhere C F v [] k = k None refl
 comes_somewhere C F v (IsClause id c hints place ∷ ss) k =
     elim (bounds id F.last) [
       | inl l ↦ k _ (inl (l, refl))
       | inr l ↦
-          hints_somewhere (first_bad F.live hints) (λ x. HintsComeTo F.live c hints place (ComesTo C (added F id c) v ss x) x)
-          (tried_somewhere F.live c hints place (λ x. ComesTo C (added F id c) v ss x) (comes_somewhere C (added F id c) v ss))
+          hints_somewhere (first_bad F.live hints) (λ x. HintsFate F.live c hints place (SayingsFate C (added F id c) v ss x) x)
+          (tried_somewhere F.live c hints place (λ x. SayingsFate C (added F id c) v ss x) (comes_somewhere C (added F id c) v ss))
           (λ x h. k x (inr (l, h)))
     ]
 comes_somewhere C F v (IsDelete ids ∷ ss) k = comes_somewhere C (deleted F ids) v ss k
@@ -106,12 +106,12 @@ comes_somewhere C F v (IsUnknown ∷ ss) k = k _ refl
 comes_somewhere C F v (IsFault f ∷ ss) k = k _ refl
 
 -- values end with their 0, whatever is said then
-lits_once : (C : List (List LitOf)) (F : Held) (x : Assignment) (ss more : List LratSaying) → ComesTo C F x ss (Some (Found Sat)) → value_lits (ss ++ more) ≡ value_lits ss
+lits_once : (C : List (List LitOf)) (F : Held) (x : Assignment) (ss more : List LratSaying) → SayingsFate C F x ss (Some (Found Sat)) → value_lits (ss ++ more) ≡ value_lits ss
 lits_once C F x [] more h = absurd (let e = h in cc)
 lits_once C F x (IsClause id c hints place ∷ ss) more (inl (l, e)) = absurd (let q = e in cc)
 lits_once C F x (IsClause id c hints place ∷ ss) more (inr (l, b)) = tried (λ h. lits_once C (added F id c) x ss more h) (by_hints (first_bad F.live hints) _ (Found Sat) (λ h e. cc) b)
   where
-    tried : (ComesTo C (added F id c) x ss (Some (Found Sat)) → value_lits (ss ++ more) ≡ value_lits ss) → HintsComeTo F.live c hints place (ComesTo C (added F id c) x ss (Some (Found Sat))) (Some (Found Sat)) → value_lits (ss ++ more) ≡ value_lits ss
+    tried : (SayingsFate C (added F id c) x ss (Some (Found Sat)) → value_lits (ss ++ more) ≡ value_lits ss) → HintsFate F.live c hints place (SayingsFate C (added F id c) x ss (Some (Found Sat))) (Some (Found Sat)) → value_lits (ss ++ more) ≡ value_lits ss
     tried again (inl (a, n, e)) = cc
     tried again (inr (inl (a, n, h))) = again h
     tried again (inr (inr (n, e))) = cc
@@ -125,13 +125,13 @@ module _ (f : FormulaOf) where
   abbrev said : Bool → List ℕ → List LratSaying
   said ended bytes = sayings f.vars ended bytes
 
-  comes_on : (bytes : List ℕ) (more whole : List LratSaying) (x : Fate) → whole ≡ said false bytes ++ more → Comes f (said false bytes) (Some x) → Comes f whole (Some x)
-  comes_on bytes more whole x e h = subst (λ (z : List LratSaying). Comes f z (Some x)) (sym e) (comes_more f.clauses (held_first f.clauses) unnamed (said false bytes) more x h)
+  comes_on : (bytes : List ℕ) (more whole : List LratSaying) (x : Fate) → whole ≡ said false bytes ++ more → StreamFate f (said false bytes) (Some x) → StreamFate f whole (Some x)
+  comes_on bytes more whole x e h = subst (λ (z : List LratSaying). StreamFate f z (Some x)) (sym e) (comes_more f.clauses (held_first f.clauses) unnamed (said false bytes) more x h)
 
-  named_on : (bytes : List ℕ) (more whole : List LratSaying) → whole ≡ said false bytes ++ more → Comes f (said false bytes) (Some (Found Sat)) → values_said whole ≡ values_said (said false bytes)
+  named_on : (bytes : List ℕ) (more whole : List LratSaying) → whole ≡ said false bytes ++ more → StreamFate f (said false bytes) (Some (Found Sat)) → values_said whole ≡ values_said (said false bytes)
   named_on bytes more whole e h = ap values_said e ∙ ap (named_from unnamed) (lits_once f.clauses (held_first f.clauses) unnamed (said false bytes) more h)
 
-  pub lrat_laws : Laws f (BytesCome f) (values_named f.vars)
+  pub lrat_laws : Laws f (BytesFate f) (values_named f.vars)
   lrat_laws = record {
     on = λ ended bytes rest x h. let w = sayings_more f.vars ended bytes rest in comes_on bytes w.0 (said ended (bytes ++ rest)) x w.1 h;
     once = λ ended bytes x y h k. comes_once f (said ended bytes) x y h k;

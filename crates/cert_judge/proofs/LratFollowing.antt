@@ -7,7 +7,7 @@ use Rattle.cert_stream.proofs.LratGoingOn.{sayings_fed, sayings_parted}
 use Rattle.sby_terms.specs.declared.names.Answer.{Answer}
 use Rattle.cert_judge.specs.Values.{named, unnamed}
 use Rattle.cert_judge.specs.Fate.{Found}
-use Rattle.cert_judge.specs.Lrat.{BytesCome, Comes, ComesTo, Held, added, deleted, first_bad, held_first}
+use Rattle.cert_judge.specs.Lrat.{BytesFate, StreamFate, SayingsFate, Held, added, deleted, first_bad, held_first}
 use Rattle.cert_judge.specs.Kinds.{FateSoFar, FateOf}
 use Rattle.cert_judge.specs.declared.stream.StreamKind.TheVariants.{Lrat}
 use Rattle.cert_judge.specs.KindCert.{IsSpace}
@@ -15,7 +15,7 @@ use Rattle.cert_judge.proofs.DrupFollowing.{followed_by}
 use Rattle.cert_judge.proofs.LratFates.{comes_more, hints_more, tried_more}
 
 -- a certificate is found before UNKNOWN is said
-found_before_unknown : (C : List (List LitOf)) (F : Held) (x : Assignment) (answer : Answer) (ss : List LratSaying) → ComesTo C F x (ss ++ IsUnknown ∷ []) (Some (Found answer)) → ComesTo C F x ss (Some (Found answer))
+found_before_unknown : (C : List (List LitOf)) (F : Held) (x : Assignment) (answer : Answer) (ss : List LratSaying) → SayingsFate C F x (ss ++ IsUnknown ∷ []) (Some (Found answer)) → SayingsFate C F x ss (Some (Found answer))
 found_before_unknown C F x answer [] h = absurd (let e = h in cc)
 found_before_unknown C F x answer (IsClause id c hints place ∷ ss) (inl h) = inl h
 found_before_unknown C F x answer (IsClause id c hints place ∷ ss) (inr (l, b)) =
@@ -28,7 +28,7 @@ found_before_unknown C F x answer (IsFault f ∷ ss) h = h
 
 module _ (f : FormulaOf) (answer : Answer) where
   abbrev Finds : List LratSaying → Type 0
-  Finds ss = Comes f ss (Some (Found answer))
+  Finds ss = StreamFate f ss (Some (Found answer))
 
   found_followed : (bytes rest : List ℕ) (b : ℕ) → IsSpace b → Finds (sayings f.vars true bytes) → Finds (sayings f.vars false (bytes ++ b ∷ rest))
   found_followed bytes rest b (inr e) h =
@@ -44,4 +44,4 @@ module _ (f : FormulaOf) (answer : Answer) where
           subst Finds (sym e) (comes_more f.clauses (held_first f.clauses) unnamed said more (Found answer) (found_before_unknown f.clauses (held_first f.clauses) unnamed answer said (subst Finds q h)))
 
   pub fate_followed : (bytes rest : List ℕ) (b most : ℕ) → IsSpace b → length bytes < most → FateOf Lrat f bytes most (Found answer) → FateSoFar Lrat f (bytes ++ b ∷ rest) most (Some (Found answer))
-  fate_followed bytes rest b most s l fate = followed_by (BytesCome f) answer found_followed bytes rest b most s l fate
+  fate_followed bytes rest b most s l fate = followed_by (BytesFate f) answer found_followed bytes rest b most s l fate

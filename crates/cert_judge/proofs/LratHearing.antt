@@ -10,7 +10,7 @@ use Rattle.lrat_check.specs.Hints.{IsHinted, Live, numbered, put}
 use Rattle.cert_judge.specs.Certificate.{CertificateOf}
 use Rattle.cert_judge.specs.Fate.{Fate}
 use Rattle.cert_judge.specs.Leading.{Leads}
-use Rattle.cert_judge.specs.Lrat.{ByHints, ComesTo, Held, HintsComeTo, added, deleted, first_bad, held, held_first, ids_of, is_good, value_lits, without}
+use Rattle.cert_judge.specs.Lrat.{ByHints, SayingsFate, Held, HintsFate, added, deleted, first_bad, held, held_first, ids_of, is_good, value_lits, without}
 use Rattle.cert_judge.specs.Outcomes.{fate_of}
 use Rattle.cert_judge.specs.Reading.{lrat_meaning}
 use Rattle.cert_judge.specs.Values.{IsFirstUnsatisfied, named, named_from, values_of}
@@ -35,7 +35,7 @@ module _ (x : CertificateOf HintedOf) (f : FormulaOf) (F : HintedOf) (bits : Lis
   bad G kind at = certificate f G bits (Some (BadOutcome (record { kind = kind; at = at })))
 
   fails : (G : HintedOf) (s : LratSaying) (kind : CertKind) (at : ℕ)
-      → ((rest : List LratSaying) (fate : Option Fate) → fate ≡ Some (fate_of (BadOutcome (record { kind = kind; at = at }))) → ComesTo f.clauses (held F) (values_of bits) (s ∷ rest) fate)
+      → ((rest : List LratSaying) (fate : Option Fate) → fate ≡ Some (fate_of (BadOutcome (record { kind = kind; at = at }))) → SayingsFate f.clauses (held F) (values_of bits) (s ∷ rest) fate)
       → LeadsTo s (bad G kind at)
   fails G s kind at h = by s (bad G kind at) (settles lrat_meaning f F G bits s (BadOutcome (record { kind = kind; at = at })) (λ q. cc) h)
 
@@ -48,7 +48,7 @@ module _ (x : CertificateOf HintedOf) (f : FormulaOf) (F : HintedOf) (bits : Lis
 
     module _ (l : F.last_id < id) where
       abbrev By : List LratSaying → Option Fate → Option Hint → Type 0
-      By rest fate o = ByHints o (HintsComeTo (live_of F) lits hints place (ComesTo f.clauses (added (held F) id lits) (values_of bits) rest fate) fate) fate
+      By rest fate o = ByHints o (HintsFate (live_of F) lits hints place (SayingsFate f.clauses (added (held F) id lits) (values_of bits) rest fate) fate) fate
 
       pub heard_bad_hint : (G : HintedOf) (i : Hint) → first_bad (live_of F) hints ≡ Some i → LeadsTo this (bad G BadHint i.place)
       heard_bad_hint G i e = fails G this BadHint i.place (λ rest fate h. inr (l, subst (By rest fate) (sym e) h))
@@ -68,7 +68,7 @@ module _ (x : CertificateOf HintedOf) (f : FormulaOf) (F : HintedOf) (bits : Lis
             (record {
               formula = refl;
               size = refl;
-              fate = λ rest fate h. inr (l, subst (By rest fate) (sym good) (inr (inl (a, m, subst (λ z. ComesTo f.clauses z (values_of bits) rest fate) q h))));
+              fate = λ rest fate h. inr (l, subst (By rest fate) (sym good) (inr (inl (a, m, subst (λ z. SayingsFate f.clauses z (values_of bits) rest fate) q h))));
               values = λ rest y h. h;
               satisfied = λ s. cc;
             }))
@@ -77,7 +77,7 @@ module _ (x : CertificateOf HintedOf) (f : FormulaOf) (F : HintedOf) (bits : Lis
   heard_deletion G ids q =
       by (IsDelete ids) (certificate f G bits o)
       (subst (Leads lrat_meaning (certificate f F bits None) (IsDelete ids ∷ [])) (sym (still G bits))
-      (record { formula = refl; size = refl; fate = λ rest fate h. subst (λ z. ComesTo f.clauses z (values_of bits) rest fate) q h; values = λ rest y h. h; satisfied = λ s. cc }))
+      (record { formula = refl; size = refl; fate = λ rest fate h. subst (λ z. SayingsFate f.clauses z (values_of bits) rest fate) q h; values = λ rest y h. h; satisfied = λ s. cc }))
 
   pub heard_value : (l : LitOf) (now : List Bool) → length now ≡ length bits → ((v : ℕ) → values_of now v ≡ named (values_of bits) l v) → LeadsTo (IsValue l) (certificate f F now o)
   heard_value l now m k =
@@ -87,7 +87,7 @@ module _ (x : CertificateOf HintedOf) (f : FormulaOf) (F : HintedOf) (bits : Lis
       (record {
         formula = refl;
         size = m;
-        fate = λ rest fate h. subst (λ z. ComesTo f.clauses (held F) z rest fate) same h;
+        fate = λ rest fate h. subst (λ z. SayingsFate f.clauses (held F) z rest fate) same h;
         values = λ rest y h. subst (λ z. named_from z (value_lits rest) ≡ y) same h;
         satisfied = λ s. cc;
       }))

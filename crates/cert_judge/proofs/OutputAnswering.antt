@@ -3,13 +3,13 @@ use Rattle.std.proofs.Common.{◌≡◌, ℕ, Bool, true, false, List, [], ◌++
 use Rattle.std.proofs.lemmas.List.{append-nil}
 use Rattle.cnf_form.specs.Cnf.{Assignment, FormulaOf}
 use Rattle.cnf_form.specs.Dimacs.{IsDimacs}
-use Rattle.cert_judge.specs.Judging.{Feeds as StreamFeeds, IsOver, IsSameJudge, JudgeOf, Stands as StreamStands, bits_of, formula_of, kind_of, outcome_of}
+use Rattle.cert_judge.specs.Judging.{Feeds as StreamFeeds, IsOver, IsSameJudge, JudgeOf, HasTaken as StreamHasTaken, bits_of, formula_of, kind_of, outcome_of}
 use Rattle.cert_judge.specs.Kinds.{IsFate, IsFateSoFar, stream_values}
 use Rattle.cert_judge.specs.Lines.{AreValuesOf, AreValuesTold}
 use Rattle.cert_judge.specs.Outcomes.{fate_of, fate_told}
 use Rattle.cert_judge.specs.Output.{has_values, stream_of}
 use Rattle.cert_judge.specs.OutputFate.{own_fate}
-use Rattle.cert_judge.specs.OutputJudging.{Ends, Feeds, Gave, Goes, OutputOf, Stands}
+use Rattle.cert_judge.specs.OutputJudging.{Ends, Feeds, Gave, Goes, OutputOf, HasTaken}
 use Rattle.cert_judge.specs.Spots.{given, given_at_end, spot_after, values_after, values_at_end}
 use Rattle.cert_judge.specs.declared.spot.Spot.{Spot}
 use Rattle.cert_judge.specs.declared.spot.Spot.TheVariants.{Start}
@@ -43,16 +43,16 @@ module _ {S : Type 0} (i j : JudgeOf S) (same : IsSameJudge i j) (drup : kind_of
       (subst (λ k. AreValuesTold (formula_of j) (stream_values k (formula_of j).vars ended text j.most) bits x) kind_drup h))
 
 -- bytes after those that the judge took
-stands_goes : {S : Type 0} (x y : OutputOf S) (bytes piece : List ℕ) → Goes x piece y → Stands x bytes → Stands y (bytes ++ piece)
+stands_goes : {S : Type 0} (x y : OutputOf S) (bytes piece : List ℕ) → Goes x piece y → HasTaken x bytes → HasTaken y (bytes ++ piece)
 stands_goes x y bytes piece g s = record {
   kind = g.gave.same.kind ∙ s.kind;
   judge =
-      subst (StreamStands y.judge) (ap (λ z. given Start bytes ++ given z piece) s.spot ∙ sym (given_append Start bytes piece)) (g.gave.stands (given Start bytes) s.judge);
+      subst (StreamHasTaken y.judge) (ap (λ z. given Start bytes ++ given z piece) s.spot ∙ sym (given_append Start bytes piece)) (g.gave.stands (given Start bytes) s.judge);
   spot = g.spot ∙ ap (λ z. spot_after z piece) s.spot ∙ sym (spot_append Start bytes piece);
   values = g.values ∙ ap (λ z. values_after z x.values piece) s.spot ∙ ap (λ v. values_after (spot_after Start bytes) v piece) s.values ∙ sym (values_append Start false bytes piece);
 }
 
-feeds_read : {S : Type 0} (x y : OutputOf S) (k : JudgeOf S) (bytes piece : List ℕ) (o : Option Outcome) → Goes x piece y → Stands x bytes → IsSameJudge y.judge k
+feeds_read : {S : Type 0} (x y : OutputOf S) (k : JudgeOf S) (bytes piece : List ℕ) (o : Option Outcome) → Goes x piece y → HasTaken x bytes → IsSameJudge y.judge k
     → StreamFeeds y.judge k (given Start (bytes ++ piece) ++ []) o → Feeds x (output k y.spot y.values) (bytes ++ piece) o
 feeds_read x y k bytes piece o g s same h =
     let w = stands_goes x y bytes piece g s in
@@ -60,7 +60,7 @@ feeds_read x y k bytes piece o g s same h =
     let e : text ≡ given Start (bytes ++ piece) = append-nil (given Start (bytes ++ piece)) in
     let i : text ≡ stream_of false (bytes ++ piece) = e ∙ given_is (bytes ++ piece) in
     record {
-      stands = record { kind = same.kind ∙ w.kind; judge = subst (StreamStands k) e h.stands; spot = w.spot; values = w.values };
+      stands = record { kind = same.kind ∙ w.kind; judge = subst (StreamHasTaken k) e h.stands; spot = w.spot; values = w.values };
       outcome = h.outcome;
       fate = λ file d.
           subst (λ t. IsFateSoFar Drup file t x.judge.most (fate_told o)) i
@@ -71,7 +71,7 @@ feeds_read x y k bytes piece o g s same h =
     }
 
 pub feeds_output : {E S : Type 0} (x : OutputOf S) (j k : JudgeOf S) (spot : Spot) (values : Bool) (piece : List ℕ) (r : Result (Option Outcome) E) → Goes x piece (output j spot values)
-    → IfOk r (λ o. IsSameJudge j k) → ((text : List ℕ) → StreamStands j text → IfOk r (λ o. StreamFeeds j k (text ++ []) o)) → (bytes : List ℕ) → Stands x bytes
+    → IfOk r (λ o. IsSameJudge j k) → ((text : List ℕ) → StreamHasTaken j text → IfOk r (λ o. StreamFeeds j k (text ++ []) o)) → (bytes : List ℕ) → HasTaken x bytes
     → IfOk r (λ o. Feeds x (output k spot values) (bytes ++ piece) o)
 feeds_output x j k spot values piece r g same f bytes s =
     if_both (λ o. IsSameJudge j k) (λ o. StreamFeeds j k (given Start (bytes ++ piece) ++ []) o) (λ o. Feeds x (output k spot values) (bytes ++ piece) o) r
@@ -85,8 +85,8 @@ both_same : {S : Type 0} (i j k : JudgeOf S) → IsSameJudge i j → IsSameJudge
 both_same i j k a b = record { formula = b.formula ∙ a.formula; kind = b.kind ∙ a.kind; most = b.most ∙ a.most }
 
 pub ends_output : {S : Type 0} (i : JudgeOf S) (spot : Spot) (values : Bool) (j k : JudgeOf S) (new : OutputOf S) (o : Outcome) (answer : Option Outcome) → Gave i (given_at_end spot) j → IsSameJudge j k
-    → ((text : List ℕ) → StreamStands j text → IsOver k text o) → new.judge ≡ k → fate_told answer ≡ own_fate (values_at_end spot values) (fate_of o)
-    → ((p : Outcome) → answer ≡ Some p → p ≡ o) → (bytes : List ℕ) → Stands (output i spot values) bytes → Ends (output i spot values) new bytes answer
+    → ((text : List ℕ) → StreamHasTaken j text → IsOver k text o) → new.judge ≡ k → fate_told answer ≡ own_fate (values_at_end spot values) (fate_of o)
+    → ((p : Outcome) → answer ≡ Some p → p ≡ o) → (bytes : List ℕ) → HasTaken (output i spot values) bytes → Ends (output i spot values) new bytes answer
 ends_output {S} i spot values j k new o answer g same f is told n bytes s =
     let text : List ℕ = given Start bytes ++ given_at_end spot in
     let e : text ≡ stream_of true bytes = ap (λ z. given Start bytes ++ given_at_end z) s.spot ∙ given_whole bytes in

@@ -13,7 +13,7 @@ use Rattle.cert_stream.proofs.Apart.{fed_lines}
 use Rattle.cert_stream.proofs.Streams.{some_line}
 use Rattle.cert_stream.proofs.Wording.{has_word, words_blank}
 use Rattle.cert_judge.specs.Fate.{Bad, Fate, Unknown}
-use Rattle.cert_judge.specs.Drup.{Comes}
+use Rattle.cert_judge.specs.Drup.{StreamFate}
 use Rattle.cert_judge.specs.Kinds.{FateOf}
 use Rattle.cert_judge.specs.declared.stream.StreamKind.TheVariants.{Drup}
 use Rattle.cert_judge.specs.Values.{unnamed}
@@ -248,13 +248,13 @@ output_within job bytes most (f, d, h) =
     let o = held_one (spot_after Start bytes) in
     omega (arith, n, q, r, o)
 
--- UNKNOWN comes to a fate
-none_unknown : (f : FormulaOf) (ts : List (List ℕ)) → Comes f (unknowns ts) None → any_unknown ts ≡ false
+-- UNKNOWN has a fate
+none_unknown : (f : FormulaOf) (ts : List (List ℕ)) → StreamFate f (unknowns ts) None → any_unknown ts ≡ false
 none_unknown f [] h = refl
 none_unknown f (t ∷ ts) h =
     elim (cases_Bool (is_unknown_line t)) [
-      | inl k ↦ absurd (let e : (let o : Option Fate = None in o) ≡ Some Unknown = subst (λ z. Comes f (cond z (IsUnknown ∷ unknowns ts) (unknowns ts)) None) k h in cc)
-      | inr k ↦ ap (λ z. z || any_unknown ts) k ∙ none_unknown f ts (subst (λ z. Comes f (cond z (IsUnknown ∷ unknowns ts) (unknowns ts)) None) k h)
+      | inl k ↦ absurd (let e : (let o : Option Fate = None in o) ≡ Some Unknown = subst (λ z. StreamFate f (cond z (IsUnknown ∷ unknowns ts) (unknowns ts)) None) k h in cc)
+      | inr k ↦ ap (λ z. z || any_unknown ts) k ∙ none_unknown f ts (subst (λ z. StreamFate f (cond z (IsUnknown ∷ unknowns ts) (unknowns ts)) None) k h)
     ]
 
 no_unknowns : (ts : List (List ℕ)) → any_unknown ts ≡ false → unknowns ts ≡ []
@@ -280,7 +280,7 @@ left_only job bytes most (x, (f, d, h), e) =
       | inr l ↦ absurd (not_late (has_values bytes) x e (so_far_late f (stream_of true bytes) most x (h.beyond l)))
       | inl l ↦ elim (h.within l) [
         | inl c ↦ absurd (not_late (has_values bytes) x e (comes_late f.clauses f.clauses unnamed (sayings f.vars true (stream_of true bytes)) x c))
-        | inr (c, i) ↦ (omega (arith, l, n), v, none_unknown f (lines_of bytes) (subst (λ z. Comes f z None) (stream_quiet f.vars bytes v) c))
+        | inr (c, i) ↦ (omega (arith, l, n), v, none_unknown f (lines_of bytes) (subst (λ z. StreamFate f z None) (stream_quiet f.vars bytes v) c))
       ]
     ]
 
@@ -289,5 +289,5 @@ left_where job bytes most f d l v u =
     let n = stream_length bytes in
     let k : sayings f.vars true (stream_of true bytes) ≡ [] = stream_quiet f.vars bytes v ∙ no_unknowns (lines_of bytes) u in
     let h : FateOf Drup f (stream_of true bytes) most (Bad EarlyEnd (length (stream_of true bytes))) =
-    record { within = λ m. inr (subst (λ z. Comes f z None) (sym k) refl, refl); beyond = λ m. absurd (omega (arith, m, l, n)) } in
+    record { within = λ m. inr (subst (λ z. StreamFate f z None) (sym k) refl, refl); beyond = λ m. absurd (omega (arith, m, l, n)) } in
     (Bad EarlyEnd (length (stream_of true bytes)), (f, d, h), sym (ap (λ z. own_fate z (Bad EarlyEnd (length (stream_of true bytes)))) v))

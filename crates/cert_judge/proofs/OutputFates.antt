@@ -7,7 +7,7 @@ use Rattle.cert_stream.specs.Stream.{sayings}
 use Rattle.cert_stream.specs.declared.mode.ParseFaultKind.{ParseFaultKind}
 use Rattle.cert_stream.specs.declared.mode.ParseFaultKind.TheVariants.{BadLine as BadLineFault, BadLiteral as BadLiteralFault, LineTooLong as LineTooLongFault}
 use Rattle.cert_judge.specs.Fate.{Fate, Found, Unknown, Bad, cert_kind}
-use Rattle.cert_judge.specs.Drup.{ComesTo}
+use Rattle.cert_judge.specs.Drup.{SayingsFate}
 use Rattle.cert_judge.specs.Kinds.{FateSoFar, IsFate}
 use Rattle.cert_judge.specs.declared.stream.StreamKind.TheVariants.{Drup}
 use Rattle.sby_terms.specs.declared.names.Answer.{Answer}
@@ -66,7 +66,7 @@ too_long_late n false = refl
 late : (x y : Fate) → (let o : Option Fate = Some x in o) ≡ Some y → IsLate y → IsLate x
 late x y e h = subst IsLate (sym (some_same x y e)) h
 
-pub comes_late : (C F : List (List LitOf)) (v : Assignment) (ss : List Saying) (x : Fate) → ComesTo C F v ss (Some x) → IsLate x
+pub comes_late : (C F : List (List LitOf)) (v : Assignment) (ss : List Saying) (x : Fate) → SayingsFate C F v ss (Some x) → IsLate x
 comes_late C F v [] x e = absurd (let k = e in cc)
 comes_late C F v (IsClause lits place ∷ ss) x (inl (a, n, e)) = late x (Found _) e (found_late _)
 comes_late C F v (IsClause lits place ∷ ss) x (inr (inl (a, n, h))) = comes_late C (F ++ lits ∷ []) v ss x h

@@ -2,9 +2,9 @@
 use Rattle.std.proofs.Common.{◌≡◌, ℕ, zero, suc, ◌+◌, ◌-◌, ◌<◌, ◌≤◌, Bool, List, [], ◌∷◌, ◌++◌, length, take, drop, get_or, refl, ap, sym, ◌∙◌, arith, subst, append_assoc}
 use Rattle.std.proofs.lemmas.List.{append-nil, take_rest}
 use Rattle.cert_stream.specs.Text.{NoFeed}
-use Rattle.cert_judge.specs.Judging.{JudgeOf, Stands as StreamStands, outcome_of}
+use Rattle.cert_judge.specs.Judging.{JudgeOf, HasTaken as StreamHasTaken, outcome_of}
 use Rattle.cert_judge.specs.OutputJudging.{Gave, Goes, OutputOf}
-use Rattle.cert_judge.specs.Spots.{IsWithin, given, given_by, next_spot, spot_after, values_after, values_behind}
+use Rattle.cert_judge.specs.Spots.{IsWithin, given, given_by, next_spot, spot_after, values_after, next_values}
 use Rattle.cert_judge.specs.declared.spot.Spot.{Spot}
 use Rattle.cert_judge.specs.declared.spot.AmidSpot.TheVariants.{Start as LineStart, Held as HeldHead, Within as InLine, Spelled, Whole, Passed}
 use Rattle.cert_judge.specs.declared.spot.Spot.TheVariants.{Start, Held, Within, Amid}
@@ -16,7 +16,7 @@ spot_append spot (x ∷ a) b = spot_append (next_spot spot x) a b
 
 pub values_append : (spot : Spot) (values : Bool) (a b : List ℕ) → values_after spot values (a ++ b) ≡ values_after (spot_after spot a) (values_after spot values a) b
 values_append spot values [] b = refl
-values_append spot values (x ∷ a) b = values_append (next_spot spot x) (values_behind spot values x) a b
+values_append spot values (x ∷ a) b = values_append (next_spot spot x) (next_values spot values x) a b
 
 pub given_append : (spot : Spot) (a b : List ℕ) → given spot (a ++ b) ≡ given spot a ++ given (spot_after spot a) b
 given_append spot [] b = refl
@@ -51,7 +51,7 @@ goes_within j k spot values t i h g =
 pub gave_nothing : {S : Type 0} (j : JudgeOf S) → Gave j [] j
 gave_nothing j = record {
   same = record { formula = refl; kind = refl; most = refl };
-  stands = λ text s. subst (StreamStands j) (sym (append-nil text)) s;
+  stands = λ text s. subst (StreamHasTaken j) (sym (append-nil text)) s;
   again = λ o w e. refl;
   wanting = λ w. w;
 }
@@ -63,7 +63,7 @@ goes_nothing x = record { gave = gave_nothing x.judge; spot = refl; values = ref
 gave_append : {S : Type 0} (j k l : JudgeOf S) (a b : List ℕ) → Gave j a k → Gave k b l → Gave j (a ++ b) l
 gave_append {S} j k l a b g h = record {
   same = record { formula = h.same.formula ∙ g.same.formula; kind = h.same.kind ∙ g.same.kind; most = h.same.most ∙ g.same.most };
-  stands = λ text s. subst (StreamStands l) (append_assoc text a b) (h.stands (text ++ a) (g.stands text s));
+  stands = λ text s. subst (StreamHasTaken l) (append_assoc text a b) (h.stands (text ++ a) (g.stands text s));
   again = λ o w e.
       let i : k ≡ j = g.again o w e in
       h.again o (ap (λ (z : JudgeOf S). z.wanting) i ∙ w) (ap outcome_of i ∙ e) ∙ i;

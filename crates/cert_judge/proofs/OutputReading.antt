@@ -9,7 +9,7 @@ use Rattle.cert_stream.specs.Text.{Word, flush, is_blank, lines_of, put_first, w
 use Rattle.cert_stream.proofs.Streams.{some_line}
 use Rattle.cert_stream.proofs.Wording.{has_word}
 use Rattle.cert_judge.specs.Output.{any_values, blanked, claim_read, has_values, is_alone, is_claim, is_unknown_line, is_values_line, line_read, lines_read, stream_of, word_read}
-use Rattle.cert_judge.specs.Spots.{amid_end, amid_given, amid_next, amid_unknown, given, given_at_end, given_by, is_letter, is_values, next_spot, parted, spot_after, values_after, values_at_end, values_behind}
+use Rattle.cert_judge.specs.Spots.{amid_end, amid_given, amid_next, amid_unknown, given, given_at_end, given_by, is_letter, is_values, next_spot, parted, spot_after, values_after, values_at_end, next_values}
 use Rattle.cert_judge.specs.declared.spot.AmidSpot.{AmidSpot}
 use Rattle.cert_judge.specs.declared.spot.AmidSpot.TheVariants.{Start as LineStart, Held as HeldHead, Within as InLine, Spelled, Whole, Passed}
 use Rattle.cert_judge.specs.declared.spot.Spot.{Spot}
@@ -444,7 +444,7 @@ or_any : (x y z : Bool) → x ≡ y → (x || z) ≡ (y || z)
 or_any x y z e = ap (λ w. w || z) e
 
 byte_values : (spot : Spot) (b : ℕ) (t : List ℕ) (ts : List (List ℕ)) → eqb b 10 ≡ false
-    → (values_behind spot false b || rest_values (next_spot spot b) (t ∷ ts)) ≡ rest_values spot ((b ∷ t) ∷ ts)
+    → (next_values spot false b || rest_values (next_spot spot b) (t ∷ ts)) ≡ rest_values spot ((b ∷ t) ∷ ts)
 byte_values Start b t ts f =
     elim (cases_Bool (is_blank b)) [
       | inl k ↦ rw (f, k) refl
@@ -458,23 +458,23 @@ byte_values (Held head) b t ts f =
 byte_values Within b t ts f = rw f refl
 byte_values (Amid spot) b t ts f = refl
 
-behind_values : (spot : Spot) (values : Bool) (b : ℕ) → values_behind spot values b ≡ (values || values_behind spot false b)
-behind_values Start values b = sym (or_false values)
-behind_values (Held head) values b = refl
-behind_values Within values b = sym (or_false values)
-behind_values (Amid spot) values b = sym (or_false values)
+after_values : (spot : Spot) (values : Bool) (b : ℕ) → next_values spot values b ≡ (values || next_values spot false b)
+after_values Start values b = sym (or_false values)
+after_values (Held head) values b = refl
+after_values Within values b = sym (or_false values)
+after_values (Amid spot) values b = sym (or_false values)
 
-feed_values : (spot : Spot) (t : List ℕ) (ts : List (List ℕ)) → (values_behind spot false 10 || rest_values (next_spot spot 10) (t ∷ ts)) ≡ rest_values spot ([] ∷ t ∷ ts)
+feed_values : (spot : Spot) (t : List ℕ) (ts : List (List ℕ)) → (next_values spot false 10 || rest_values (next_spot spot 10) (t ∷ ts)) ≡ rest_values spot ([] ∷ t ∷ ts)
 feed_values Start t ts = refl
 feed_values (Held head) t ts = elim (cases_Bool (is_values head)) [ inl h ↦ rw h refl | inr h ↦ rw h refl ]
 feed_values Within t ts = refl
 feed_values (Amid spot) t ts = refl
 
-step_values : (spot : Spot) (b : ℕ) (bs : List ℕ) → (values_behind spot false b || rest_values (next_spot spot b) (lines_of bs)) ≡ rest_values spot (lines_of (b ∷ bs))
+step_values : (spot : Spot) (b : ℕ) (bs : List ℕ) → (next_values spot false b || rest_values (next_spot spot b) (lines_of bs)) ≡ rest_values spot (lines_of (b ∷ bs))
 step_values spot b bs =
     let w = some_line bs in
     elim (cases_Bool (eqb b 10)) [
-      | inl t ↦ rw (t, w.2) (ap (λ z. values_behind spot false z || rest_values (next_spot spot z) (w.0 ∷ w.1)) (eqb-true b 10 t) ∙ feed_values spot w.0 w.1)
+      | inl t ↦ rw (t, w.2) (ap (λ z. next_values spot false z || rest_values (next_spot spot z) (w.0 ∷ w.1)) (eqb-true b 10 t) ∙ feed_values spot w.0 w.1)
       | inr f ↦ rw (f, w.2) (byte_values spot b w.0 w.1 f)
     ]
 
@@ -487,9 +487,9 @@ end_values (Amid spot) values = sym (or_false values)
 all_values : (spot : Spot) (values : Bool) (bytes : List ℕ) → values_at_end (spot_after spot bytes) (values_after spot values bytes) ≡ (values || rest_values spot (lines_of bytes))
 all_values spot values [] = end_values spot values
 all_values spot values (b ∷ bs) =
-    all_values (next_spot spot b) (values_behind spot values b) bs
-    ∙ ap (λ z. z || rest_values (next_spot spot b) (lines_of bs)) (behind_values spot values b)
-    ∙ or_assoc values (values_behind spot false b) (rest_values (next_spot spot b) (lines_of bs))
+    all_values (next_spot spot b) (next_values spot values b) bs
+    ∙ ap (λ z. z || rest_values (next_spot spot b) (lines_of bs)) (after_values spot values b)
+    ∙ or_assoc values (next_values spot false b) (rest_values (next_spot spot b) (lines_of bs))
     ∙ ap (λ z. values || z) (step_values spot b bs)
 
 start_values : (ts : List (List ℕ)) → rest_values Start ts ≡ any_values ts

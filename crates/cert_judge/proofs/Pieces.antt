@@ -7,9 +7,9 @@ use Rattle.std.proofs.Math.Seq.{take-append-add}
 use Rattle.cnf_form.specs.Cnf.{FormulaOf, IsUnsatisfiable}
 use Rattle.cert_judge.specs.Certificate.{CertificateOf, outcome_or}
 use Rattle.cert_judge.specs.Fate.{Bad as BadFate}
-use Rattle.cert_judge.specs.Judging.{Feeds, HasOutcome, IsOver, IsSameJudge, JudgeOf, Stands, StandsBy, bits_of, formula_of, kind_of, outcome_of}
-use Rattle.cert_judge.specs.Kinds.{BytesCome, FateOf, FateSoFar, stream_values, values_named}
-use Rattle.cert_judge.specs.Lines.{AreValuesOf, AreValuesTold, At, Takes, TakesEnd, TakesPiece, Tells, Took, TookEnd, lines_bits, lines_formula, lines_kind, lines_or, lines_outcome, lines_taken}
+use Rattle.cert_judge.specs.Judging.{Feeds, HasOutcome, IsOver, IsSameJudge, JudgeOf, HasTaken, HasTakenWith, bits_of, formula_of, kind_of, outcome_of}
+use Rattle.cert_judge.specs.Kinds.{BytesFate, FateOf, FateSoFar, stream_values, values_named}
+use Rattle.cert_judge.specs.Lines.{AreValuesOf, AreValuesTold, LinesAwaitMore, Takes, TakesEnd, TakesPiece, Tells, Took, TookEnd, lines_bits, lines_formula, lines_kind, lines_or, lines_outcome, lines_taken}
 use Rattle.cert_judge.specs.Outcomes.{fate_of, fate_told}
 use Rattle.cert_judge.specs.declared.lines.Lines.{Lines}
 use Rattle.cert_judge.specs.declared.lines.Lines.TheVariants.{Drup, Lrat, Proof, ProofBinary}
@@ -25,7 +25,7 @@ if_ok P Q (Ok a) f h = f a h
 if_ok P Q (Err e) f h = tt
 
 -- this many bytes were taken as there are
-pub at_taken : {S : Type 0} (l : Lines S) (bytes : List ℕ) → At l bytes → lines_taken l ≡ length bytes
+pub at_taken : {S : Type 0} (l : Lines S) (bytes : List ℕ) → LinesAwaitMore l bytes → lines_taken l ≡ length bytes
 at_taken (Drup l) bytes (h, n) = n
 at_taken (Lrat l) bytes (h, n) = n
 at_taken (Proof l) bytes (h, n) = n
@@ -99,7 +99,7 @@ module _ (kind : StreamKind) (f : FormulaOf) (most : ℕ) where
 
 -- an answer from what is known of the new judge
 module _ {S : Type 0} (old new : JudgeOf S) (same : IsSameJudge old new) (bytes : List ℕ) where
-  pub feeds_of : (o : Option Outcome) → outcome_of new ≡ o → Stands new bytes → FateSoFar (kind_of new) (formula_of new) bytes new.most (fate_told o)
+  pub feeds_of : (o : Option Outcome) → outcome_of new ≡ o → HasTaken new bytes → FateSoFar (kind_of new) (formula_of new) bytes new.most (fate_told o)
       → AreValuesTold (formula_of new) (stream_values (kind_of new) (formula_of new).vars false bytes new.most) (bits_of new) o → Feeds old new bytes o
   feeds_of o e s h v =
       let fate : FateSoFar (kind_of old) (formula_of old) bytes old.most (fate_told o) =
@@ -125,15 +125,15 @@ same_judge : {S : Type 0} (j : JudgeOf S) → IsSameJudge j j
 same_judge j = record { formula = refl; kind = refl; most = refl }
 
 -- a judge with an outcome
-module _ {S : Type 0} (j : JudgeOf S) (o : Outcome) (e : outcome_of j ≡ Some o) (bytes : List ℕ) (s : Stands j bytes) where
+module _ {S : Type 0} (j : JudgeOf S) (o : Outcome) (e : outcome_of j ≡ Some o) (bytes : List ℕ) (s : HasTaken j bytes) where
   had : HasOutcome j bytes o
-  had = subst (StandsBy j bytes) e s
+  had = subst (HasTakenWith j bytes) e s
 
   pub feeds_again : (piece : List ℕ) → Feeds j j (bytes ++ piece) (Some o)
   feeds_again piece =
       let fate = fate_stays (kind_of j) (formula_of j) j.most bytes piece (fate_of o) had.fate in
       let values = told_stay (kind_of j) (formula_of j) j.most bytes piece (bits_of j) o had.fate had.values in
-      feeds_of j j (same_judge j) (bytes ++ piece) (Some o) e (subst (StandsBy j (bytes ++ piece)) (sym e) (record { fate = fate; values = values })) fate values
+      feeds_of j j (same_judge j) (bytes ++ piece) (Some o) e (subst (HasTakenWith j (bytes ++ piece)) (sym e) (record { fate = fate; values = values })) fate values
 
   pub ends_again : IsOver j bytes o
   ends_again =
@@ -141,9 +141,9 @@ module _ {S : Type 0} (j : JudgeOf S) (o : Outcome) (e : outcome_of j ≡ Some o
       (told_at_end (kind_of j) (formula_of j) j.most bytes (bits_of j) o had.fate had.values)
 
 -- a judge without one
-module _ {S : Type 0} (most : ℕ) (l : Lines S) (wanting : Bool) (e : lines_outcome l ≡ None) (bytes : List ℕ) (s : Stands (judge l most wanting) bytes) where
-  at : At l bytes × (length bytes ≤ most)
-  at = subst (StandsBy (judge l most wanting) bytes) e s
+module _ {S : Type 0} (most : ℕ) (l : Lines S) (wanting : Bool) (e : lines_outcome l ≡ None) (bytes : List ℕ) (s : HasTaken (judge l most wanting) bytes) where
+  at : LinesAwaitMore l bytes × (length bytes ≤ most)
+  at = subst (HasTakenWith (judge l most wanting) bytes) e s
 
   count : lines_taken l ≡ length bytes
   count = at_taken l bytes at.0
@@ -160,7 +160,7 @@ module _ {S : Type 0} (most : ℕ) (l : Lines S) (wanting : Bool) (e : lines_out
     within_values =
         subst (λ z. AreValuesTold (lines_formula k) (values_named (lines_kind k) (lines_formula k).vars false z) (lines_bits k) (lines_outcome k)) (sym (take_all most (bytes ++ piece) fits)) took.tells.values
 
-    within_stands : (o : Option Outcome) → lines_outcome k ≡ o → StandsBy (judge k most wanting) (bytes ++ piece) o
+    within_stands : (o : Option Outcome) → lines_outcome k ≡ o → HasTakenWith (judge k most wanting) (bytes ++ piece) o
     within_stands None q = (took.at q, fits)
     within_stands (Some o) q =
         record {
@@ -192,14 +192,14 @@ module _ {S : Type 0} (most : ℕ) (l : Lines S) (wanting : Bool) (e : lines_out
     first : Takes k (bytes ++ take room piece)
     first = t.1 bytes at.0
 
-    comes_first : BytesCome (lines_kind k) (lines_formula k) false (take most (bytes ++ piece)) (fate_told (lines_outcome k))
-    comes_first = subst (λ z. BytesCome (lines_kind k) (lines_formula k) false z (fate_told (lines_outcome k))) (sym first_most) first.tells.comes
+    comes_first : BytesFate (lines_kind k) (lines_formula k) false (take most (bytes ++ piece)) (fate_told (lines_outcome k))
+    comes_first = subst (λ z. BytesFate (lines_kind k) (lines_formula k) false z (fate_told (lines_outcome k))) (sym first_most) first.tells.comes
 
     past_fate : (o : Option Outcome) → lines_outcome k ≡ o → FateSoFar (lines_kind k) (lines_formula k) (bytes ++ piece) most (fate_told (some_or o too_long))
     past_fate None q =
-        record { within = λ w. absurd (let p = past_most in omega (arith, w, p)); beyond = λ _. inr (subst (λ z. BytesCome (lines_kind k) (lines_formula k) false (take most (bytes ++ piece)) (fate_told z)) q comes_first, refl) }
+        record { within = λ w. absurd (let p = past_most in omega (arith, w, p)); beyond = λ _. inr (subst (λ z. BytesFate (lines_kind k) (lines_formula k) false (take most (bytes ++ piece)) (fate_told z)) q comes_first, refl) }
     past_fate (Some o) q =
-        record { within = λ w. absurd (let p = past_most in omega (arith, w, p)); beyond = λ _. inl (fate_of o, subst (λ z. BytesCome (lines_kind k) (lines_formula k) false (take most (bytes ++ piece)) (fate_told z)) q comes_first, refl) }
+        record { within = λ w. absurd (let p = past_most in omega (arith, w, p)); beyond = λ _. inl (fate_of o, subst (λ z. BytesFate (lines_kind k) (lines_formula k) false (take most (bytes ++ piece)) (fate_told z)) q comes_first, refl) }
 
     abbrev Valued : Option Outcome → Type 0
     Valued o = AreValuesTold (lines_formula k) (stream_values (lines_kind k) (lines_formula k).vars false (bytes ++ piece) most) (lines_bits k) o
@@ -223,7 +223,7 @@ module _ {S : Type 0} (most : ℕ) (l : Lines S) (wanting : Bool) (e : lines_out
         (subst (λ z. AreValuesTold (lines_formula k) (stream_values (lines_kind k) (lines_formula k).vars false (bytes ++ piece) most) z (lines_outcome n)) (sym (lines_or_bits k too_long))
         (subst Valued (sym (lines_or_outcome k too_long)) (past_values (lines_outcome k) refl))))
 
-    past_stands : (o : Option Outcome) → lines_outcome k ≡ o → StandsBy (judge n most wanting) (bytes ++ piece) (some_or o too_long)
+    past_stands : (o : Option Outcome) → lines_outcome k ≡ o → HasTakenWith (judge n most wanting) (bytes ++ piece) (some_or o too_long)
     past_stands None q = settled too_long (lines_or_outcome k too_long ∙ ap (λ z. some_or z too_long) q)
       where
         settled : (x : Outcome) → lines_outcome n ≡ Some x → HasOutcome (judge n most wanting) (bytes ++ piece) x
@@ -243,7 +243,7 @@ module _ {S : Type 0} (most : ℕ) (l : Lines S) (wanting : Bool) (e : lines_out
     feeds_past =
         feeds_of (judge l most wanting) (judge n most wanting)
         (record { formula = lines_or_formula k too_long ∙ t.0.formula; kind = lines_or_kind k too_long ∙ t.0.kind; most = refl }) (bytes ++ piece) (lines_outcome n) refl
-        (subst (StandsBy (judge n most wanting) (bytes ++ piece)) (sym (lines_or_outcome k too_long)) (past_stands (lines_outcome k) refl)) fate_now values_now
+        (subst (HasTakenWith (judge n most wanting) (bytes ++ piece)) (sym (lines_or_outcome k too_long)) (past_stands (lines_outcome k) refl)) fate_now values_now
 
   pub feeds_piece : (k : Lines S) (piece : List ℕ) (room : ℕ) → lines_taken l ≤ most → room ≡ most - lines_taken l → TakesPiece (lines_taken l + room) room l piece k
       → Feeds (judge l most wanting) (judge k most wanting) (bytes ++ piece) (lines_outcome k)
@@ -264,12 +264,12 @@ module _ {S : Type 0} (most : ℕ) (l : Lines S) (wanting : Bool) (e : lines_out
     end_fate : (o : Option Outcome) → lines_outcome k ≡ o → (x : Outcome) → some_or o early_end ≡ Some x → FateOf (lines_kind k) (lines_formula k) bytes most (fate_of x)
     end_fate None q x r =
         let i : early_end ≡ x = cc in
-        let c = subst (λ z. BytesCome (lines_kind k) (lines_formula k) true bytes (fate_told z)) q tells.comes in
+        let c = subst (λ z. BytesFate (lines_kind k) (lines_formula k) true bytes (fate_told z)) q tells.comes in
         subst (λ z. FateOf (lines_kind k) (lines_formula k) bytes most (fate_of z)) i
         (record { within = λ _. inr (c, ap (BadFate EarlyEnd) count); beyond = λ b. absurd (let j = at.1 in omega (arith, b, j)) })
     end_fate (Some o) q x r =
         let i : o ≡ x = cc in
-        let c = subst (λ z. BytesCome (lines_kind k) (lines_formula k) true bytes (fate_told z)) q tells.comes in
+        let c = subst (λ z. BytesFate (lines_kind k) (lines_formula k) true bytes (fate_told z)) q tells.comes in
         subst (λ z. FateOf (lines_kind k) (lines_formula k) bytes most (fate_of z)) i (record { within = λ _. inl c; beyond = λ b. absurd (let j = at.1 in omega (arith, b, j)) })
 
     whole_values : values_named (lines_kind k) (lines_formula k).vars true bytes ≡ stream_values (lines_kind k) (lines_formula k).vars true bytes most

@@ -15,7 +15,7 @@ use Rattle.proof_stream.specs.declared.spot.Form.TheVariants.{Text, Binary}
 use Rattle.cert_judge.specs.Certificate.{CertificateOf}
 use Rattle.cert_judge.specs.Drup as drup
 use Rattle.cert_judge.specs.Fate.{Fate}
-use Rattle.cert_judge.specs.Leading.{IsAt}
+use Rattle.cert_judge.specs.Leading.{AwaitsMore}
 use Rattle.cert_judge.specs.Lines.{Starts}
 use Rattle.cert_judge.specs.Lrat as lrat
 use Rattle.cert_judge.specs.Reading.{Meaning, Parsing, drup_meaning, drup_parsing, file_parsing, lrat_meaning, lrat_parsing}
@@ -30,7 +30,7 @@ module _ {W S C : Type 0} (p : Parsing W S) (m : Meaning S C) (first : W) (c : C
   none_named = λ i v. u v i
 
   pub first_at : first ≡ p.after first [] → p.fault first ≡ None → p.said first [] ≡ [] → c.outcome ≡ None → length c.bits ≡ c.formula.vars + 1
-      → ((rest : List S) (fate : Option Fate) → m.comes c.formula c.checker unnamed rest fate → m.begins c.formula rest fate) → IsAt p m first first c []
+      → ((rest : List S) (fate : Option Fate) → m.comes c.formula c.checker unnamed rest fate → m.begins c.formula rest fate) → AwaitsMore p m first first c []
   first_at a e q n l h =
       record {
         parser = a;
@@ -51,16 +51,16 @@ module _ (S : Type 0) (f : FormulaOf) (vars : ℕ) (v : vars ≡ f.vars) where
     same : c.checker.clauses ≡ c.formula.clauses
     same = ap (λ (k : CheckerOf). k.clauses) s ∙ ap (λ (z : FormulaOf). z.clauses) (sym g)
 
-    at : IsAt drup_parsing drup_meaning (drup_telling.fresh c.formula.vars) (drup_telling.fresh c.formula.vars) c []
+    at : AwaitsMore drup_parsing drup_meaning (drup_telling.fresh c.formula.vars) (drup_telling.fresh c.formula.vars) c []
     at = first_at drup_parsing drup_meaning (drup_telling.fresh c.formula.vars) c u refl refl refl n (l ∙ ap (λ (z : FormulaOf). z.vars + 1) (sym g))
-        (λ rest fate h. subst (λ z. drup.ComesTo c.formula.clauses z unnamed rest fate) same h)
+        (λ rest fate h. subst (λ z. drup.SayingsFate c.formula.clauses z unnamed rest fate) same h)
 
     pub drup_starts : Starts {S = S} f DrupKind (Drup (record { parser = w; certificate = c }))
     drup_starts =
         record {
           formula = g;
           kind = refl;
-          at = (subst (λ (z : DrupOf). IsAt drup_parsing drup_meaning (drup_telling.fresh c.formula.vars) z c []) (sym is) at, ap (λ (z : DrupOf). z.taken) is);
+          at = (subst (λ (z : DrupOf). AwaitsMore drup_parsing drup_meaning (drup_telling.fresh c.formula.vars) z c []) (sym is) at, ap (λ (z : DrupOf). z.taken) is);
           undecided = n;
           fits = sym (ap (λ (z : DrupOf). z.vars) is);
           taken = ap (λ (z : DrupOf). z.taken) is;
@@ -75,16 +75,16 @@ module _ (S : Type 0) (f : FormulaOf) (vars : ℕ) (v : vars ≡ f.vars) where
     lrat_same : lrat.held c.checker ≡ lrat.held_first c.formula.clauses
     lrat_same = starts_held f c.checker s ∙ ap (λ (z : FormulaOf). lrat.held_first z.clauses) (sym g)
 
-    lrat_at : IsAt lrat_parsing lrat_meaning (lrat_telling.fresh c.formula.vars) (lrat_telling.fresh c.formula.vars) c []
+    lrat_at : AwaitsMore lrat_parsing lrat_meaning (lrat_telling.fresh c.formula.vars) (lrat_telling.fresh c.formula.vars) c []
     lrat_at = first_at lrat_parsing lrat_meaning (lrat_telling.fresh c.formula.vars) c u refl refl refl n (l ∙ ap (λ (z : FormulaOf). z.vars + 1) (sym g))
-        (λ rest fate h. subst (λ z. lrat.ComesTo c.formula.clauses z unnamed rest fate) lrat_same h)
+        (λ rest fate h. subst (λ z. lrat.SayingsFate c.formula.clauses z unnamed rest fate) lrat_same h)
 
     pub lrat_starts : Starts {S = S} f LratKind (Lrat (record { parser = w; certificate = c }))
     lrat_starts =
         record {
           formula = g;
           kind = refl;
-          at = (subst (λ (z : LratOf). IsAt lrat_parsing lrat_meaning (lrat_telling.fresh c.formula.vars) z c []) (sym lrat_is) lrat_at, ap (λ (z : LratOf). z.taken) lrat_is);
+          at = (subst (λ (z : LratOf). AwaitsMore lrat_parsing lrat_meaning (lrat_telling.fresh c.formula.vars) z c []) (sym lrat_is) lrat_at, ap (λ (z : LratOf). z.taken) lrat_is);
           undecided = n;
           fits = sym (ap (λ (z : LratOf). z.vars) lrat_is);
           taken = ap (λ (z : LratOf). z.taken) lrat_is;
@@ -102,16 +102,16 @@ module _ (S : Type 0) (f : FormulaOf) (vars : ℕ) (v : vars ≡ f.vars) where
     sound Text = refl
     sound Binary = refl
 
-    file_at : (form : Form) → IsAt file_parsing drup_meaning (file.fresh form c.formula.vars) (file.fresh form c.formula.vars) c []
+    file_at : (form : Form) → AwaitsMore file_parsing drup_meaning (file.fresh form c.formula.vars) (file.fresh form c.formula.vars) c []
     file_at form = first_at file_parsing drup_meaning (file.fresh form c.formula.vars) c u refl (sound form) refl n (l ∙ ap (λ (z : FormulaOf). z.vars + 1) (sym g))
-        (λ rest fate h. subst (λ z. drup.ComesTo c.formula.clauses z unnamed rest fate) file_same h)
+        (λ rest fate h. subst (λ z. drup.SayingsFate c.formula.clauses z unnamed rest fate) file_same h)
 
     pub proof_starts : w ≡ file.fresh Text vars → Starts {S = S} f ProofKind (Proof (record { parser = w; certificate = c }))
     proof_starts e =
         record {
           formula = g;
           kind = refl;
-          at = (subst (λ (z : FileOf). IsAt file_parsing drup_meaning (file.fresh Text c.formula.vars) z c []) (sym (file_is Text e)) (file_at Text), ap file.taken_of (file_is Text e));
+          at = (subst (λ (z : FileOf). AwaitsMore file_parsing drup_meaning (file.fresh Text c.formula.vars) z c []) (sym (file_is Text e)) (file_at Text), ap file.taken_of (file_is Text e));
           undecided = n;
           fits = sym (ap file.vars_of (file_is Text e));
           taken = ap file.taken_of (file_is Text e);
@@ -122,7 +122,7 @@ module _ (S : Type 0) (f : FormulaOf) (vars : ℕ) (v : vars ≡ f.vars) where
         record {
           formula = g;
           kind = refl;
-          at = (subst (λ (z : FileOf). IsAt file_parsing drup_meaning (file.fresh Binary c.formula.vars) z c []) (sym (file_is Binary e)) (file_at Binary), ap file.taken_of (file_is Binary e));
+          at = (subst (λ (z : FileOf). AwaitsMore file_parsing drup_meaning (file.fresh Binary c.formula.vars) z c []) (sym (file_is Binary e)) (file_at Binary), ap file.taken_of (file_is Binary e));
           undecided = n;
           fits = sym (ap file.vars_of (file_is Binary e));
           taken = ap file.taken_of (file_is Binary e);

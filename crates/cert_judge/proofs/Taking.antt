@@ -6,7 +6,6 @@ use Rattle.cnf_form.specs.Cnf.{Assignment, FormulaOf}
 use Rattle.cert_stream.specs.Machine.{DrupOf, fault_of}
 use Rattle.cert_stream.specs.Telling as drup_telling
 use Rattle.cert_stream.specs.Telling.{Saying}
-use Rattle.cert_stream.specs.LratMachine as lrat_machine
 use Rattle.cert_stream.specs.LratMachine.{LratOf}
 use Rattle.cert_stream.specs.LratTelling as lrat_telling
 use Rattle.cert_stream.specs.LratTelling.{LratSaying}
@@ -29,7 +28,7 @@ use Rattle.proof_stream.proofs.Passing.{text}
 use Rattle.cert_judge.specs.Certificate.{CertificateOf, LineOf}
 use Rattle.cert_judge.specs.Drup as drup
 use Rattle.cert_judge.specs.Fate.{Fate}
-use Rattle.cert_judge.specs.Leading.{Heard, IsAt, Leads, drup_ending, lrat_ending}
+use Rattle.cert_judge.specs.Leading.{Heard, AwaitsMore, Leads, drup_ending, lrat_ending}
 use Rattle.cert_judge.specs.Lines.{AreValuesTold, Took, TookEnd}
 use Rattle.cert_judge.specs.Lrat as lrat
 use Rattle.cert_judge.specs.Outcomes.{fate_told}
@@ -53,7 +52,7 @@ module _ {W S C : Type 0} (p : Parsing W S) (m : Meaning S C) (start : ℕ → W
       (come_so_far : (f : FormulaOf) (bytes : List ℕ) (x : Option Fate) → m.begins f (so_far f bytes) x → come f false bytes x)
       (named_so_far : (f : FormulaOf) (bytes : List ℕ) (bits : List Bool) (o : Option Outcome) → come f false bytes (fate_told o) → AreValuesTold f (named_from unnamed (m.lits (so_far f bytes))) bits o
       → AreValuesTold f (named f.vars false bytes) bits o)
-      (w v : W) (c d : CertificateOf C) (bytes piece : List ℕ) (h : IsAt p m (start c.formula.vars) w c bytes) (g : Heard p m w c piece v d) where
+      (w v : W) (c d : CertificateOf C) (bytes piece : List ℕ) (h : AwaitsMore p m (start c.formula.vars) w c bytes) (g : Heard p m w c piece v d) where
     abbrev more : List S
     more = p.said w piece ++ m.fault_said (p.fault (p.after w piece))
 
@@ -77,15 +76,15 @@ module _ {W S C : Type 0} (p : Parsing W S) (m : Meaning S C) (start : ℕ → W
     pub took_values : AreValuesTold d.formula (named d.formula.vars false (bytes ++ piece)) d.bits d.outcome
     took_values = subst (λ (f : FormulaOf). AreValuesTold f (named f.vars false (bytes ++ piece)) d.bits d.outcome) (sym g.leads.formula) values_here
 
-    pub took_at : d.outcome ≡ None → IsAt p m (start d.formula.vars) v d (bytes ++ piece)
+    pub took_at : d.outcome ≡ None → AwaitsMore p m (start d.formula.vars) v d (bytes ++ piece)
     took_at n =
-        subst (λ (f : FormulaOf). IsAt p m (start f.vars) v d (bytes ++ piece)) (sym g.leads.formula)
+        subst (λ (f : FormulaOf). AwaitsMore p m (start f.vars) v d (bytes ++ piece)) (sym g.leads.formula)
         (at_next m p said_append after_append none_said (start c.formula.vars) w v c d bytes piece h g n)
 
   -- and at the end
   module _ (ending : W → List S) (come_at_end : (f : FormulaOf) (bytes : List ℕ) (x : Option Fate) → m.begins f (p.said (start f.vars) bytes ++ ending (p.after (start f.vars) bytes)) x → come f true bytes x)
       (named_at_end : (f : FormulaOf) (bytes : List ℕ) → named_from unnamed (m.lits (p.said (start f.vars) bytes ++ ending (p.after (start f.vars) bytes))) ≡ named f.vars true bytes)
-      (w : W) (c d : CertificateOf C) (bytes : List ℕ) (h : IsAt p m (start c.formula.vars) w c bytes) (l : Leads m c (ending w) d) where
+      (w : W) (c d : CertificateOf C) (bytes : List ℕ) (h : AwaitsMore p m (start c.formula.vars) w c bytes) (l : Leads m c (ending w) d) where
     all : p.said (start c.formula.vars) bytes ++ ending w ≡ p.said (start c.formula.vars) bytes ++ ending (p.after (start c.formula.vars) bytes)
     all = ap (λ (u : W). p.said (start c.formula.vars) bytes ++ ending u) h.parser
 
@@ -109,23 +108,23 @@ drup_took S l k piece g = (
   record { formula = g.leads.formula; kind = refl },
   λ bytes (h, n). record {
     tells = record {
-      comes = took_comes drup_parsing drup_meaning drup_telling.fresh drup.BytesCome drup.values_named nothing drup_cutting.said_append drup_cutting.after_append refl come values l.parser k.parser l.certificate k.certificate bytes piece h g;
-      values = took_values drup_parsing drup_meaning drup_telling.fresh drup.BytesCome drup.values_named nothing drup_cutting.said_append drup_cutting.after_append refl come values l.parser k.parser l.certificate k.certificate bytes piece h g;
+      comes = took_comes drup_parsing drup_meaning drup_telling.fresh drup.BytesFate drup.values_named nothing drup_cutting.said_append drup_cutting.after_append refl come values l.parser k.parser l.certificate k.certificate bytes piece h g;
+      values = took_values drup_parsing drup_meaning drup_telling.fresh drup.BytesFate drup.values_named nothing drup_cutting.said_append drup_cutting.after_append refl come values l.parser k.parser l.certificate k.certificate bytes piece h g;
     };
     at = λ e. (
-      took_at drup_parsing drup_meaning drup_telling.fresh drup.BytesCome drup.values_named nothing drup_cutting.said_append drup_cutting.after_append refl come values l.parser k.parser l.certificate k.certificate bytes piece h g e,
+      took_at drup_parsing drup_meaning drup_telling.fresh drup.BytesFate drup.values_named nothing drup_cutting.said_append drup_cutting.after_append refl come values l.parser k.parser l.certificate k.certificate bytes piece h g e,
       counted k.parser.taken l.parser.taken bytes piece n (ap (λ (w : DrupOf). w.taken) (g.kept e) ∙ drup_cutting.after_taken l.parser piece),
     );
   },
 )
   where
-    nothing : (f : FormulaOf) (e : CheckerOf) (x : Assignment) → drup.ComesTo f.clauses e.clauses x [] None
+    nothing : (f : FormulaOf) (e : CheckerOf) (x : Assignment) → drup.SayingsFate f.clauses e.clauses x [] None
     nothing f e x = refl
 
-    come : (f : FormulaOf) (bytes : List ℕ) (x : Option Fate) → drup.Comes f (drup_telling.spoken false (drup_telling.fresh f.vars) bytes) x → drup.BytesCome f false bytes x
-    come f bytes x h = subst (λ (z : List Saying). drup.Comes f z x) (drup_streams.stream_spoken f.vars false bytes) h
+    come : (f : FormulaOf) (bytes : List ℕ) (x : Option Fate) → drup.StreamFate f (drup_telling.spoken false (drup_telling.fresh f.vars) bytes) x → drup.BytesFate f false bytes x
+    come f bytes x h = subst (λ (z : List Saying). drup.StreamFate f z x) (drup_streams.stream_spoken f.vars false bytes) h
 
-    values : (f : FormulaOf) (bytes : List ℕ) (bits : List Bool) (o : Option Outcome) → drup.BytesCome f false bytes (fate_told o)
+    values : (f : FormulaOf) (bytes : List ℕ) (bits : List Bool) (o : Option Outcome) → drup.BytesFate f false bytes (fate_told o)
         → AreValuesTold f (drup.values_said (drup_telling.spoken false (drup_telling.fresh f.vars) bytes)) bits o → AreValuesTold f (drup.values_named f.vars false bytes) bits o
     values f bytes bits o k v = subst (λ (z : List Saying). AreValuesTold f (drup.values_said z) bits o) (drup_streams.stream_spoken f.vars false bytes) v
 
@@ -133,44 +132,40 @@ pub drup_took_end : (S : Type 0) (l k : LineOf DrupOf CheckerOf) → Leads drup_
 drup_took_end S l k g = (
   record { formula = g.formula; kind = refl },
   λ bytes (h, n). record {
-    comes = end_comes drup_parsing drup_meaning drup_telling.fresh drup.BytesCome drup.values_named (λ f e x. refl) drup_ending come values l.parser l.certificate k.certificate bytes h g;
-    values = end_values drup_parsing drup_meaning drup_telling.fresh drup.BytesCome drup.values_named (λ f e x. refl) drup_ending come values l.parser l.certificate k.certificate bytes h g;
+    comes = end_comes drup_parsing drup_meaning drup_telling.fresh drup.BytesFate drup.values_named (λ f e x. refl) drup_ending come values l.parser l.certificate k.certificate bytes h g;
+    values = end_values drup_parsing drup_meaning drup_telling.fresh drup.BytesFate drup.values_named (λ f e x. refl) drup_ending come values l.parser l.certificate k.certificate bytes h g;
   },
 )
   where
-    come : (f : FormulaOf) (bytes : List ℕ) (x : Option Fate) → drup.Comes f (drup_telling.spoken true (drup_telling.fresh f.vars) bytes) x → drup.BytesCome f true bytes x
-    come f bytes x h = subst (λ (z : List Saying). drup.Comes f z x) (drup_streams.stream_spoken f.vars true bytes) h
+    come : (f : FormulaOf) (bytes : List ℕ) (x : Option Fate) → drup.StreamFate f (drup_telling.spoken true (drup_telling.fresh f.vars) bytes) x → drup.BytesFate f true bytes x
+    come f bytes x h = subst (λ (z : List Saying). drup.StreamFate f z x) (drup_streams.stream_spoken f.vars true bytes) h
 
     values : (f : FormulaOf) (bytes : List ℕ) → drup.values_said (drup_telling.spoken true (drup_telling.fresh f.vars) bytes) ≡ drup.values_named f.vars true bytes
     values f bytes = ap drup.values_said (drup_streams.stream_spoken f.vars true bytes)
 
 -- hinted text
-lrat_taken : (w : LratOf) (bytes : List ℕ) → (lrat_telling.after w bytes).taken ≡ w.taken + length bytes
-lrat_taken w [] = omega arith
-lrat_taken w (b ∷ bytes) = let e : (lrat_telling.after (lrat_machine.turn w b).to bytes).taken ≡ (w.taken + 1) + length bytes = lrat_taken (lrat_machine.turn w b).to bytes in omega (arith, e)
-
 pub lrat_took : (S : Type 0) (l k : LineOf LratOf HintedOf) (piece : List ℕ) → Heard lrat_parsing lrat_meaning l.parser l.certificate piece k.parser k.certificate → Took {S = S} (Lrat l) piece (Lrat k)
 lrat_took S l k piece g = (
   record { formula = g.leads.formula; kind = refl },
   λ bytes (h, n). record {
     tells = record {
-      comes = took_comes lrat_parsing lrat_meaning lrat_telling.fresh lrat.BytesCome lrat.values_named nothing lrat_cutting.said_append lrat_cutting.after_append refl come values l.parser k.parser l.certificate k.certificate bytes piece h g;
-      values = took_values lrat_parsing lrat_meaning lrat_telling.fresh lrat.BytesCome lrat.values_named nothing lrat_cutting.said_append lrat_cutting.after_append refl come values l.parser k.parser l.certificate k.certificate bytes piece h g;
+      comes = took_comes lrat_parsing lrat_meaning lrat_telling.fresh lrat.BytesFate lrat.values_named nothing lrat_cutting.said_append lrat_cutting.after_append refl come values l.parser k.parser l.certificate k.certificate bytes piece h g;
+      values = took_values lrat_parsing lrat_meaning lrat_telling.fresh lrat.BytesFate lrat.values_named nothing lrat_cutting.said_append lrat_cutting.after_append refl come values l.parser k.parser l.certificate k.certificate bytes piece h g;
     };
     at = λ e. (
-      took_at lrat_parsing lrat_meaning lrat_telling.fresh lrat.BytesCome lrat.values_named nothing lrat_cutting.said_append lrat_cutting.after_append refl come values l.parser k.parser l.certificate k.certificate bytes piece h g e,
-      counted k.parser.taken l.parser.taken bytes piece n (ap (λ (w : LratOf). w.taken) (g.kept e) ∙ lrat_taken l.parser piece),
+      took_at lrat_parsing lrat_meaning lrat_telling.fresh lrat.BytesFate lrat.values_named nothing lrat_cutting.said_append lrat_cutting.after_append refl come values l.parser k.parser l.certificate k.certificate bytes piece h g e,
+      counted k.parser.taken l.parser.taken bytes piece n (ap (λ (w : LratOf). w.taken) (g.kept e) ∙ lrat_cutting.after_taken l.parser piece),
     );
   },
 )
   where
-    nothing : (f : FormulaOf) (e : HintedOf) (x : Assignment) → lrat.ComesTo f.clauses (lrat.held e) x [] None
+    nothing : (f : FormulaOf) (e : HintedOf) (x : Assignment) → lrat.SayingsFate f.clauses (lrat.held e) x [] None
     nothing f e x = refl
 
-    come : (f : FormulaOf) (bytes : List ℕ) (x : Option Fate) → lrat.Comes f (lrat_telling.spoken false (lrat_telling.fresh f.vars) bytes) x → lrat.BytesCome f false bytes x
-    come f bytes x h = subst (λ (z : List LratSaying). lrat.Comes f z x) (lrat_streams.stream_spoken f.vars false bytes) h
+    come : (f : FormulaOf) (bytes : List ℕ) (x : Option Fate) → lrat.StreamFate f (lrat_telling.spoken false (lrat_telling.fresh f.vars) bytes) x → lrat.BytesFate f false bytes x
+    come f bytes x h = subst (λ (z : List LratSaying). lrat.StreamFate f z x) (lrat_streams.stream_spoken f.vars false bytes) h
 
-    values : (f : FormulaOf) (bytes : List ℕ) (bits : List Bool) (o : Option Outcome) → lrat.BytesCome f false bytes (fate_told o)
+    values : (f : FormulaOf) (bytes : List ℕ) (bits : List Bool) (o : Option Outcome) → lrat.BytesFate f false bytes (fate_told o)
         → AreValuesTold f (lrat.values_said (lrat_telling.spoken false (lrat_telling.fresh f.vars) bytes)) bits o → AreValuesTold f (lrat.values_named f.vars false bytes) bits o
     values f bytes bits o k v = subst (λ (z : List LratSaying). AreValuesTold f (lrat.values_said z) bits o) (lrat_streams.stream_spoken f.vars false bytes) v
 
@@ -178,13 +173,13 @@ pub lrat_took_end : (S : Type 0) (l k : LineOf LratOf HintedOf) → Leads lrat_m
 lrat_took_end S l k g = (
   record { formula = g.formula; kind = refl },
   λ bytes (h, n). record {
-    comes = end_comes lrat_parsing lrat_meaning lrat_telling.fresh lrat.BytesCome lrat.values_named (λ f e x. refl) lrat_ending come values l.parser l.certificate k.certificate bytes h g;
-    values = end_values lrat_parsing lrat_meaning lrat_telling.fresh lrat.BytesCome lrat.values_named (λ f e x. refl) lrat_ending come values l.parser l.certificate k.certificate bytes h g;
+    comes = end_comes lrat_parsing lrat_meaning lrat_telling.fresh lrat.BytesFate lrat.values_named (λ f e x. refl) lrat_ending come values l.parser l.certificate k.certificate bytes h g;
+    values = end_values lrat_parsing lrat_meaning lrat_telling.fresh lrat.BytesFate lrat.values_named (λ f e x. refl) lrat_ending come values l.parser l.certificate k.certificate bytes h g;
   },
 )
   where
-    come : (f : FormulaOf) (bytes : List ℕ) (x : Option Fate) → lrat.Comes f (lrat_telling.spoken true (lrat_telling.fresh f.vars) bytes) x → lrat.BytesCome f true bytes x
-    come f bytes x h = subst (λ (z : List LratSaying). lrat.Comes f z x) (lrat_streams.stream_spoken f.vars true bytes) h
+    come : (f : FormulaOf) (bytes : List ℕ) (x : Option Fate) → lrat.StreamFate f (lrat_telling.spoken true (lrat_telling.fresh f.vars) bytes) x → lrat.BytesFate f true bytes x
+    come f bytes x h = subst (λ (z : List LratSaying). lrat.StreamFate f z x) (lrat_streams.stream_spoken f.vars true bytes) h
 
     values : (f : FormulaOf) (bytes : List ℕ) → lrat.values_said (lrat_telling.spoken true (lrat_telling.fresh f.vars) bytes) ≡ lrat.values_named f.vars true bytes
     values f bytes = ap lrat.values_said (lrat_streams.stream_spoken f.vars true bytes)
@@ -221,13 +216,13 @@ after_taken r (b ∷ bytes) e =
     omega (arith, k, n)
 
 module _ (form : Form) where
-  nothing : (f : FormulaOf) (e : CheckerOf) (x : Assignment) → drup.ComesTo f.clauses e.clauses x [] None
+  nothing : (f : FormulaOf) (e : CheckerOf) (x : Assignment) → drup.SayingsFate f.clauses e.clauses x [] None
   nothing f e x = refl
 
-  come : (f : FormulaOf) (bytes : List ℕ) (x : Option Fate) → drup.Comes f (file.spoken false (file.fresh form f.vars) bytes) x → proof_file.BytesCome form f false bytes x
+  come : (f : FormulaOf) (bytes : List ℕ) (x : Option Fate) → drup.StreamFate f (file.spoken false (file.fresh form f.vars) bytes) x → proof_file.BytesFate form f false bytes x
   come f bytes x h = spoken_lines form f bytes x h
 
-  values : (f : FormulaOf) (bytes : List ℕ) (bits : List Bool) (o : Option Outcome) → proof_file.BytesCome form f false bytes (fate_told o)
+  values : (f : FormulaOf) (bytes : List ℕ) (bits : List Bool) (o : Option Outcome) → proof_file.BytesFate form f false bytes (fate_told o)
       → AreValuesTold f (drup.values_said (file.spoken false (file.fresh form f.vars) bytes)) bits o → AreValuesTold f unnamed bits o
   values f bytes bits None k v = tt
   values f bytes bits (Some Refuted) k v = tt
@@ -235,18 +230,18 @@ module _ (form : Form) where
   values f bytes bits (Some Unknown) k v = tt
   values f bytes bits (Some (Bad b)) k v = tt
 
-  module _ (l k : LineOf FileOf CheckerOf) (piece bytes : List ℕ) (g : Heard file_parsing drup_meaning l.parser l.certificate piece k.parser k.certificate) (h : IsAt file_parsing drup_meaning (file.fresh form l.certificate.formula.vars) l.parser l.certificate bytes) where
-    pub file_took_comes : proof_file.BytesCome form k.certificate.formula false (bytes ++ piece) (fate_told k.certificate.outcome)
+  module _ (l k : LineOf FileOf CheckerOf) (piece bytes : List ℕ) (g : Heard file_parsing drup_meaning l.parser l.certificate piece k.parser k.certificate) (h : AwaitsMore file_parsing drup_meaning (file.fresh form l.certificate.formula.vars) l.parser l.certificate bytes) where
+    pub file_took_comes : proof_file.BytesFate form k.certificate.formula false (bytes ++ piece) (fate_told k.certificate.outcome)
     file_took_comes =
-        took_comes file_parsing drup_meaning (file.fresh form) (proof_file.BytesCome form) (λ vars ended bytes. unnamed) nothing file_cutting.said_append file_cutting.after_append refl come values l.parser k.parser l.certificate k.certificate bytes piece h g
+        took_comes file_parsing drup_meaning (file.fresh form) (proof_file.BytesFate form) (λ vars ended bytes. unnamed) nothing file_cutting.said_append file_cutting.after_append refl come values l.parser k.parser l.certificate k.certificate bytes piece h g
 
     pub file_took_values : AreValuesTold k.certificate.formula unnamed k.certificate.bits k.certificate.outcome
     file_took_values =
-        took_values file_parsing drup_meaning (file.fresh form) (proof_file.BytesCome form) (λ vars ended bytes. unnamed) nothing file_cutting.said_append file_cutting.after_append refl come values l.parser k.parser l.certificate k.certificate bytes piece h g
+        took_values file_parsing drup_meaning (file.fresh form) (proof_file.BytesFate form) (λ vars ended bytes. unnamed) nothing file_cutting.said_append file_cutting.after_append refl come values l.parser k.parser l.certificate k.certificate bytes piece h g
 
-    pub file_took_at : k.certificate.outcome ≡ None → IsAt file_parsing drup_meaning (file.fresh form k.certificate.formula.vars) k.parser k.certificate (bytes ++ piece)
+    pub file_took_at : k.certificate.outcome ≡ None → AwaitsMore file_parsing drup_meaning (file.fresh form k.certificate.formula.vars) k.parser k.certificate (bytes ++ piece)
     file_took_at e =
-        took_at file_parsing drup_meaning (file.fresh form) (proof_file.BytesCome form) (λ vars ended bytes. unnamed) nothing file_cutting.said_append file_cutting.after_append refl come values l.parser k.parser l.certificate k.certificate bytes piece h g e
+        took_at file_parsing drup_meaning (file.fresh form) (proof_file.BytesFate form) (λ vars ended bytes. unnamed) nothing file_cutting.said_append file_cutting.after_append refl come values l.parser k.parser l.certificate k.certificate bytes piece h g e
 
     pub file_took_count : k.certificate.outcome ≡ None → file.taken_of l.parser ≡ length bytes → file.taken_of k.parser ≡ length (bytes ++ piece)
     file_took_count e n = counted (file.taken_of k.parser) (file.taken_of l.parser) bytes piece n (ap file.taken_of (g.kept e) ∙ after_taken l.parser piece (g.whole e))

@@ -24,11 +24,11 @@ use Rattle.proof_stream.proofs.Alone.{fed_starts}
 use Rattle.proof_stream.proofs.Heads.{none_passes, passes_none}
 use Rattle.proof_stream.proofs.Passing.{passes_snoc}
 use Rattle.sby_terms.specs.declared.names.Answer.TheVariants.{Unsat}
-use Rattle.cert_judge.specs.Drup.{Comes}
+use Rattle.cert_judge.specs.Drup.{StreamFate}
 use Rattle.cert_judge.specs.DrupCert.{Leads, IsCertOf, lines, words}
 use Rattle.cert_judge.specs.Fate.{Found}
 use Rattle.cert_judge.specs.KindCert.{IsClosedCert, IsOpenCert, IsSpace}
-use Rattle.cert_judge.specs.ProofFile.{BytesCome, LinesCome, tried}
+use Rattle.cert_judge.specs.ProofFile.{BytesFate, LinesFate, tried}
 use Rattle.cert_judge.specs.Values.{unnamed}
 use Rattle.cert_judge.specs.declared.stream.StreamKind.TheVariants.{Proof}
 use Rattle.cert_judge.proofs.Bounding.{sides}
@@ -84,12 +84,12 @@ TextParts f ended bytes = Parts (λ c. IsClosedCert Proof f c Unsat) ended bytes
 
 module _ (f : FormulaOf) where
   abbrev Finds : List Saying → Type 0
-  Finds ss = Comes f ss (Some (Found Unsat))
+  Finds ss = StreamFate f ss (Some (Found Unsat))
 
   finds_more : (ss more : List Saying) → Finds ss → Finds (ss ++ more)
   finds_more ss more h = comes_more f.clauses f.clauses unnamed ss more (Found Unsat) h
 
-  finds_cut : (ss more : List Saying) → Finds (ss ++ more) → Finds ss ⊎ Comes f ss None
+  finds_cut : (ss more : List Saying) → Finds (ss ++ more) → Finds ss ⊎ StreamFate f ss None
   finds_cut ss more h = comes_cut f.clauses f.clauses unnamed ss more (Found Unsat) h
 
   cert_says : (cert : List ℕ) → IsCertOf f cert Unsat → Finds (sayings f.vars true cert)
@@ -136,15 +136,15 @@ module _ (f : FormulaOf) where
     fault_says : (g : ParseFault) → w.mode ≡ Bad g → sayings f.vars false fed ≡ said (fresh f.vars) fed ++ IsFault g ∷ []
     fault_says g e = sym (stream_spoken f.vars false fed) ∙ ap (λ m. said (fresh f.vars) fed ++ fault_said (fault_of m)) e
 
-    starts : Comes f (sayings f.vars false fed) None → w.mode ≡ Start false
+    starts : StreamFate f (sayings f.vars false fed) None → w.mode ≡ Start false
     starts h =
         elim (fed_starts f.vars stream (none_passes stream none)) [
           | inl e ↦ e
-          | inr (g, e) ↦ absurd (fault_some f.clauses f.clauses unnamed (said (fresh f.vars) fed) g (subst (λ (z : List Saying). Comes f z None) (fault_says g e) h))
+          | inr (g, e) ↦ absurd (fault_some f.clauses f.clauses unnamed (said (fresh f.vars) fed) g (subst (λ (z : List Saying). StreamFate f z None) (fault_says g e) h))
         ]
 
     -- the file's end completes it
-    ends_found : Finds (tried (length stream) (sayings f.vars false fed)) → BytesCome Text f true stream (Some (Found Unsat))
+    ends_found : Finds (tried (length stream) (sayings f.vars false fed)) → BytesFate Text f true stream (Some (Found Unsat))
     ends_found h =
         let m = sayings_more f.vars false stream (10 ∷ []) in
         let k : Finds (sayings f.vars false stream ++ (m.0 ++ IsClause [] (length stream) ∷ [])) =
@@ -154,7 +154,7 @@ module _ (f : FormulaOf) where
           | inr g ↦ inr ((sayings f.vars false stream, Plain none refl, g), (sayings f.vars false fed, Found Unsat, Plain none_fed refl, h, refl))
         ]
 
-    closed_comes : IsCertOf f stream Unsat → BytesCome Text f true stream (Some (Found Unsat))
+    closed_comes : IsCertOf f stream Unsat → BytesFate Text f true stream (Some (Found Unsat))
     closed_comes c = ends_found (finds_more (sayings f.vars false fed) (IsClause [] (length stream) ∷ []) (followed_says stream 10 (inr refl) c))
 
     lines_zero : lines (fed ++ 48 ∷ []) ≡ lines stream ++ (codes "0" ∷ []) ∷ []
@@ -163,7 +163,7 @@ module _ (f : FormulaOf) where
     lines_feed : lines fed ≡ lines stream ++ [] ∷ []
     lines_feed = ap (map words) (lines_fed stream []) ∙ map-append words (lines_of stream) ([] ∷ [])
 
-    open_comes : (G : List (List LitOf)) → Leads f.vars (lines stream) f.clauses G → IsAdmitted G [] → BytesCome Text f true stream (Some (Found Unsat))
+    open_comes : (G : List (List LitOf)) → Leads f.vars (lines stream) f.clauses G → IsAdmitted G [] → BytesFate Text f true stream (Some (Found Unsat))
     open_comes G l a = ends_found (by (finds_cut (sayings f.vars false fed) m.0 (subst Finds m.1 h)))
       where
         h : Finds (sayings f.vars true (fed ++ 48 ∷ []))
@@ -172,7 +172,7 @@ module _ (f : FormulaOf) where
         m : (more : List Saying) × (sayings f.vars true (fed ++ 48 ∷ []) ≡ sayings f.vars false fed ++ more)
         m = sayings_more f.vars true fed (48 ∷ [])
 
-        by : Finds (sayings f.vars false fed) ⊎ Comes f (sayings f.vars false fed) None → Finds (tried (length stream) (sayings f.vars false fed))
+        by : Finds (sayings f.vars false fed) ⊎ StreamFate f (sayings f.vars false fed) None → Finds (tried (length stream) (sayings f.vars false fed))
         by (inl g) = finds_more (sayings f.vars false fed) (IsClause [] (length stream) ∷ []) g
         by (inr g) = last_moves f.clauses f.clauses unnamed (sayings f.vars false fed) w.taken (length stream) (subst Finds (zero_says (starts g)) h)
 
@@ -235,7 +235,7 @@ module _ (f : FormulaOf) where
   goes_on front more (cert, [], e, c, i) = absurd (let k = i in cc)
   goes_on front more (cert, b ∷ rest, e, c, i) = (cert, b ∷ rest ++ more, ap (λ z. z ++ more) e ∙ append_assoc cert (b ∷ rest) more, c, i)
 
-  pub lines_cert : (bytes : List ℕ) → LinesCome Text f bytes (Some (Found Unsat)) → TextParts f false bytes
+  pub lines_cert : (bytes : List ℕ) → LinesFate Text f bytes (Some (Found Unsat)) → TextParts f false bytes
   lines_cert bytes (ss, Plain none e, h) = closed_parts false bytes none (cert_parts false bytes (subst Finds e h))
   lines_cert bytes (ss, Refused front b rest g i c none e, h) =
       let k = refused_cert front none [] (subst Finds (sym (append-nil (up_to_fault (sayings f.vars false front ++ bad BadLine (length front))))) (subst Finds e h)) in
@@ -259,16 +259,16 @@ module _ (f : FormulaOf) where
   end_cert stream ss (Refused front b rest g i c none e) h =
       inl (in_stream stream front b rest g (refused_cert front none (IsClause [] (length stream) ∷ []) (subst (λ (z : List Saying). Finds (tried (length stream) z)) e h)))
 
-  pub text_cert : (stream : List ℕ) → BytesCome Text f true stream (Some (Found Unsat)) → TextParts f true stream ⊎ IsOpenCert Proof f stream Unsat
+  pub text_cert : (stream : List ℕ) → BytesFate Text f true stream (Some (Found Unsat)) → TextParts f true stream ⊎ IsOpenCert Proof f stream Unsat
   text_cert stream (inl h) = inl (ends_too stream (lines_cert stream h))
-  text_cert stream (inr (k, (ss, v, s, h, e))) = end_cert stream ss s (subst (λ z. Comes f (tried (length stream) ss) (Some z)) (found_at_end (length stream) Unsat v e) h)
+  text_cert stream (inr (k, (ss, v, s, h, e))) = end_cert stream ss s (subst (λ z. StreamFate f (tried (length stream) ss) (Some z)) (found_at_end (length stream) Unsat v e) h)
 
   -- a space after a certificate, and whatever comes then
-  pub text_followed : (cert : List ℕ) (b : ℕ) → IsSpace b → NoClaim cert → IsCertOf f cert Unsat → BytesCome Text f false (cert ++ b ∷ []) (Some (Found Unsat))
+  pub text_followed : (cert : List ℕ) (b : ℕ) → IsSpace b → NoClaim cert → IsCertOf f cert Unsat → BytesFate Text f false (cert ++ b ∷ []) (Some (Found Unsat))
   text_followed cert b s none w = (sayings f.vars false (cert ++ b ∷ []), Plain (no_claim_space cert b s none) refl, followed_says cert b s w)
 
-  pub text_closed : (stream : List ℕ) → NoClaim stream → IsCertOf f stream Unsat → BytesCome Text f true stream (Some (Found Unsat))
+  pub text_closed : (stream : List ℕ) → NoClaim stream → IsCertOf f stream Unsat → BytesFate Text f true stream (Some (Found Unsat))
   text_closed stream none w = closed_comes stream none w
 
-  pub text_open : (stream : List ℕ) → NoClaim stream → (G : List (List LitOf)) → Leads f.vars (lines stream) f.clauses G → IsAdmitted G [] → BytesCome Text f true stream (Some (Found Unsat))
+  pub text_open : (stream : List ℕ) → NoClaim stream → (G : List (List LitOf)) → Leads f.vars (lines stream) f.clauses G → IsAdmitted G [] → BytesFate Text f true stream (Some (Found Unsat))
   text_open stream none G l a = open_comes stream none G l a

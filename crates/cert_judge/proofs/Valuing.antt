@@ -9,7 +9,7 @@ use Rattle.cnf_form.proofs.Members.{Contains-cases, Contains-empty}
 use Rattle.cnf_form.proofs.Rup.{clause_cases, lit_in-negate}
 use Rattle.cert_judge.specs.Values.{values_of}
 use Rattle.cert_judge.specs.Values.{IsFirstUnsatisfied, named, named_from}
-use Rattle.cert_judge.specs.Fate.{Fate, Bad, ValuesComeTo}
+use Rattle.cert_judge.specs.Fate.{Fate, Bad, ValuesFate}
 use Rattle.cert_judge.specs.declared.stream.CertKind.TheVariants.{NotSatisfying}
 
 -- some literals, then others
@@ -71,12 +71,12 @@ some_unsatisfied x (c ∷ F) =
     further s i before zero d l h = let e : c ≡ d = cc in subst (SatisfiesClause x) e s
     further s i before (suc j) d l h = before j d (omega arith) h
 
--- what values that end come to
-pub values_once : (C : List (List LitOf)) (x : Assignment) (f g : Option Fate) → ValuesComeTo C x f → ValuesComeTo C x g → f ≡ g
+-- the fate of values that end
+pub values_once : (C : List (List LitOf)) (x : Assignment) (f g : Option Fate) → ValuesFate C x f → ValuesFate C x g → f ≡ g
 values_once C x f g (inl (s, e)) (inl (t, h)) = e ∙ sym h
 values_once C x f g (inl (s, e)) (inr (n, u, h)) = absurd (not_satisfied x C n s u)
 values_once C x f g (inr (m, u, e)) (inl (t, h)) = absurd (not_satisfied x C m t u)
 values_once C x f g (inr (m, u, e)) (inr (n, w, h)) = e ∙ ap (λ k. Some (Bad NotSatisfying k)) (one_unsatisfied x C m n u w) ∙ sym h
 
-pub values_somewhere : (C : List (List LitOf)) (x : Assignment) → ((f : Option Fate) → ValuesComeTo C x f → ⊥) → ⊥
+pub values_somewhere : (C : List (List LitOf)) (x : Assignment) → ((f : Option Fate) → ValuesFate C x f → ⊥) → ⊥
 values_somewhere C x k = elim (some_unsatisfied x C) [ inl s ↦ k _ (inl (s, refl)) | inr (n, u) ↦ k _ (inr (n, u, refl)) ]

@@ -1,11 +1,11 @@
--- What a stream of DRUP text comes to.
+-- The fate of a stream of DRUP text.
 use Rattle.std.specs.Prelude.{◌≡◌, ◌≢◌, ◌⊎◌, ℕ, Bool, List, [], ◌∷◌, ◌++◌, Option, Some, None}
 use Rattle.cnf_form.specs.Cnf.{LitOf, FormulaOf, Assignment, IsAdmitted, Deletes}
 use Rattle.cert_stream.specs.Stream.{sayings}
 use Rattle.cert_stream.specs.Telling.{Saying, IsClause, IsDelete, IsValue, IsValuesEnd, IsUnknown, IsFault}
 use Rattle.sby_terms.specs.declared.names.Answer.TheVariants.{Unsat}
 use Rattle.cert_judge.specs.declared.stream.CertKind.TheVariants.{NotRup}
-use Rattle.cert_judge.specs.Fate.{Fate, Found, Unknown, Bad, ValuesComeTo, cert_kind}
+use Rattle.cert_judge.specs.Fate.{Fate, Found, Unknown, Bad, ValuesFate, cert_kind}
 use Rattle.cert_judge.specs.Values.{named, named_from, unnamed}
 
 -- the values, up to their end
@@ -22,28 +22,28 @@ value_lits (IsFault f ∷ ss) = value_lits ss
 abbrev pub values_said : List Saying → Assignment
 values_said ss = named_from unnamed (value_lits ss)
 
--- What sayings come to, from a formula with the clauses C, where the clauses F are present and the values x were named: each clause
--- has to be admitted, and joins them; the empty one, or values that satisfy C, complete the certificate. None where they come to
--- nothing yet.
-abbrev pub ComesTo : List (List LitOf) → List (List LitOf) → Assignment → List Saying → Option Fate → Type 0
-ComesTo C F x [] fate = fate ≡ None
-ComesTo C F x (IsClause lits place ∷ ss) fate =
+-- The fate of sayings, for a formula with the clauses C, where the clauses F are present and the values x were named: each clause
+-- has to be admitted, and joins them; the empty one, or values that satisfy C, complete the certificate. None where they are
+-- undecided.
+abbrev pub SayingsFate : List (List LitOf) → List (List LitOf) → Assignment → List Saying → Option Fate → Type 0
+SayingsFate C F x [] fate = fate ≡ None
+SayingsFate C F x (IsClause lits place ∷ ss) fate =
     (IsAdmitted F lits × (lits ≡ []) × (fate ≡ Some (Found Unsat)))
-    ⊎ (IsAdmitted F lits × (lits ≢ []) × ComesTo C (F ++ lits ∷ []) x ss fate)
+    ⊎ (IsAdmitted F lits × (lits ≢ []) × SayingsFate C (F ++ lits ∷ []) x ss fate)
     ⊎ ((IsAdmitted F lits → ⊥) × (fate ≡ Some (Bad NotRup place)))
-ComesTo C F x (IsDelete lits ∷ ss) fate = (G : List (List LitOf)) × Deletes F lits G × ComesTo C G x ss fate
-ComesTo C F x (IsValue l ∷ ss) fate = ComesTo C F (named x l) ss fate
-ComesTo C F x (IsValuesEnd ∷ ss) fate = ValuesComeTo C x fate
-ComesTo C F x (IsUnknown ∷ ss) fate = fate ≡ Some Unknown
-ComesTo C F x (IsFault f ∷ ss) fate = fate ≡ Some (Bad (cert_kind f.kind) f.byte)
+SayingsFate C F x (IsDelete lits ∷ ss) fate = (G : List (List LitOf)) × Deletes F lits G × SayingsFate C G x ss fate
+SayingsFate C F x (IsValue l ∷ ss) fate = SayingsFate C F (named x l) ss fate
+SayingsFate C F x (IsValuesEnd ∷ ss) fate = ValuesFate C x fate
+SayingsFate C F x (IsUnknown ∷ ss) fate = fate ≡ Some Unknown
+SayingsFate C F x (IsFault f ∷ ss) fate = fate ≡ Some (Bad (cert_kind f.kind) f.byte)
 
--- what the sayings of a stream come to, as a certificate of a formula
-abbrev pub Comes : FormulaOf → List Saying → Option Fate → Type 0
-Comes f ss fate = ComesTo f.clauses f.clauses unnamed ss fate
+-- the fate of a stream's sayings, as a certificate of a formula
+abbrev pub StreamFate : FormulaOf → List Saying → Option Fate → Type 0
+StreamFate f ss fate = SayingsFate f.clauses f.clauses unnamed ss fate
 
--- what bytes of a stream come to, which are all where it ended
-abbrev pub BytesCome : FormulaOf → Bool → List ℕ → Option Fate → Type 0
-BytesCome f ended bytes fate = Comes f (sayings f.vars ended bytes) fate
+-- the fate of a stream's bytes, which are all where it ended
+abbrev pub BytesFate : FormulaOf → Bool → List ℕ → Option Fate → Type 0
+BytesFate f ended bytes fate = StreamFate f (sayings f.vars ended bytes) fate
 
 -- the values that they name
 abbrev pub values_named : ℕ → Bool → List ℕ → Assignment

@@ -1,4 +1,4 @@
--- What streams of every kind come to: a certificate, or why it is none.
+-- The fate of streams of every kind: a certificate, or why it is none.
 use Rattle.std.specs.Prelude.{◌≡◌, ◌⊎◌, ℕ, ◌<◌, ◌≤◌, Bool, true, false, List, length, take, Option, Some, None}
 use Rattle.cnf_form.specs.Cnf.{LitOf, Assignment, Satisfies}
 use Rattle.cert_stream.specs.declared.mode.ParseFaultKind.{ParseFaultKind}
@@ -15,7 +15,7 @@ pub data Fate : Type 0 where
   Unknown : Fate
   Bad : CertKind → ℕ → Fate
 
--- what bytes come to, by what `comes` tells of `most` of them at most, and whether these are all: where more may follow
+-- the fate of bytes, by what `comes` tells of `most` of them at most, and whether these are all: where more may follow
 pub record FateSoFarBy (comes : Bool → List ℕ → Option Fate → Type 0) (bytes : List ℕ) (most : ℕ) (fate : Option Fate) : Type 0 where
   pub within : length bytes ≤ most → comes false bytes fate
   pub beyond : most < length bytes → ((x : Fate) × comes false (take most bytes) (Some x) × (fate ≡ Some x)) ⊎ (comes false (take most bytes) None × (fate ≡ Some (Bad TooLong most)))
@@ -30,6 +30,6 @@ cert_kind BadLine = BadLineKind
 cert_kind BadLiteral = BadLiteralKind
 cert_kind LineTooLong = LineTooLongKind
 
--- What values that end come to: a certificate where they satisfy all clauses, else the first clause that they don't satisfy.
-abbrev pub ValuesComeTo : List (List LitOf) → Assignment → Option Fate → Type 0
-ValuesComeTo C x fate = (Satisfies x C × (fate ≡ Some (Found Sat))) ⊎ ((n : ℕ) × IsFirstUnsatisfied x C n × (fate ≡ Some (Bad NotSatisfying n)))
+-- The fate of values that end: a certificate where they satisfy all clauses, else the first clause that they don't satisfy.
+abbrev pub ValuesFate : List (List LitOf) → Assignment → Option Fate → Type 0
+ValuesFate C x fate = (Satisfies x C × (fate ≡ Some (Found Sat))) ⊎ ((n : ℕ) × IsFirstUnsatisfied x C n × (fate ≡ Some (Bad NotSatisfying n)))

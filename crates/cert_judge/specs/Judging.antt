@@ -3,7 +3,7 @@ use Rattle.std.specs.Prelude.{◌≡◌, ℕ, ◌≤◌, Bool, true, false, List
 use Rattle.cnf_form.specs.Cnf.{FormulaOf, IsUnsatisfiable}
 use Rattle.cnf_form.specs.Dimacs.{IsDimacs}
 use Rattle.cert_judge.specs.Kinds.{FateOf, FateSoFar, IsFate, IsFateSoFar, stream_values}
-use Rattle.cert_judge.specs.Lines.{AreValuesOf, AreValuesTold, At, lines_bits, lines_formula, lines_kind, lines_outcome}
+use Rattle.cert_judge.specs.Lines.{AreValuesOf, AreValuesTold, LinesAwaitMore, lines_bits, lines_formula, lines_kind, lines_outcome}
 use Rattle.cert_judge.specs.Outcomes.{fate_of, fate_told}
 use Rattle.cert_judge.specs.declared.lines.Lines.{Lines}
 use Rattle.cert_judge.specs.declared.stream.Outcome.{Outcome}
@@ -34,14 +34,14 @@ pub record HasOutcome {S : Type 0} (j : JudgeOf S) (bytes : List ℕ) (o : Outco
   pub fate : FateSoFar (kind_of j) (formula_of j) bytes j.most (Some (fate_of o))
   pub values : AreValuesOf (formula_of j) (stream_values (kind_of j) (formula_of j).vars false bytes j.most) (bits_of j) o
 
--- without an outcome, the bytes, `most` at most, came to nothing yet
-abbrev pub StandsBy : {S : Type 0} → JudgeOf S → List ℕ → Option Outcome → Type 0
-StandsBy j bytes None = At j.lines bytes × (length bytes ≤ j.most)
-StandsBy j bytes (Some o) = HasOutcome j bytes o
+-- without an outcome, the bytes, `most` at most, are undecided
+abbrev pub HasTakenWith : {S : Type 0} → JudgeOf S → List ℕ → Option Outcome → Type 0
+HasTakenWith j bytes None = LinesAwaitMore j.lines bytes × (length bytes ≤ j.most)
+HasTakenWith j bytes (Some o) = HasOutcome j bytes o
 
 -- the judge took the bytes of a stream
-abbrev pub Stands : {S : Type 0} → JudgeOf S → List ℕ → Type 0
-Stands j bytes = StandsBy j bytes (outcome_of j)
+abbrev pub HasTaken : {S : Type 0} → JudgeOf S → List ℕ → Type 0
+HasTaken j bytes = HasTakenWith j bytes (outcome_of j)
 
 -- the same formula and kind, and the same number of bytes at most
 pub record IsSameJudge {S : Type 0} (old new : JudgeOf S) : Type 0 where
@@ -52,7 +52,7 @@ pub record IsSameJudge {S : Type 0} (old new : JudgeOf S) : Type 0 where
 -- The judge took the bytes, and answers their fate so far for each file of its formula, with the values that they name. Where they refute the
 -- formula, it can't be satisfied.
 pub record Feeds {S : Type 0} (old new : JudgeOf S) (bytes : List ℕ) (o : Option Outcome) : Type 0 where
-  pub stands : Stands new bytes
+  pub stands : HasTaken new bytes
   pub outcome : outcome_of new ≡ o
   pub fate : (file : List ℕ) → IsDimacs file (formula_of old) → IsFateSoFar (kind_of old) file bytes old.most (fate_told o)
   pub values : AreValuesTold (formula_of old) (stream_values (kind_of old) (formula_of old).vars false bytes old.most) (bits_of new) o

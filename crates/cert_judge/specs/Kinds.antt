@@ -1,4 +1,4 @@
--- The table of kinds: what a stream of each kind comes to.
+-- The table of kinds: the fate of a stream of each kind.
 use Rattle.std.specs.Prelude.{ℕ, Bool, ◌&&◌, leb, List, length, take, Option}
 use Rattle.cnf_form.specs.Cnf.{Assignment, FormulaOf}
 use Rattle.cnf_form.specs.Dimacs.{IsDimacs}
@@ -11,12 +11,12 @@ use Rattle.cert_judge.specs.Values.{unnamed}
 use Rattle.cert_judge.specs.declared.stream.StreamKind.{StreamKind}
 use Rattle.cert_judge.specs.declared.stream.StreamKind.TheVariants.{Drup, Lrat, Proof, ProofBinary}
 
--- what bytes of a stream of a kind come to, as a certificate of a formula; they are all where it ended
-abbrev pub BytesCome : StreamKind → FormulaOf → Bool → List ℕ → Option Fate → Type 0
-BytesCome Drup = drup.BytesCome
-BytesCome Lrat = lrat.BytesCome
-BytesCome Proof = proof_file.BytesCome Text
-BytesCome ProofBinary = proof_file.BytesCome Binary
+-- the fate of a stream's bytes by its kind, as a certificate of a formula; they are all where it ended
+abbrev pub BytesFate : StreamKind → FormulaOf → Bool → List ℕ → Option Fate → Type 0
+BytesFate Drup = drup.BytesFate
+BytesFate Lrat = lrat.BytesFate
+BytesFate Proof = proof_file.BytesFate Text
+BytesFate ProofBinary = proof_file.BytesFate Binary
 
 -- the values that they name; a proof file names none
 abbrev pub values_named : StreamKind → ℕ → Bool → List ℕ → Assignment
@@ -25,13 +25,13 @@ values_named Lrat = lrat.values_named
 values_named Proof = λ vars ended bytes. unnamed
 values_named ProofBinary = λ vars ended bytes. unnamed
 
--- what these bytes of a stream come to, `most` of them at most: where more may follow
+-- the fate of these bytes of a stream, `most` of them at most: where more may follow
 abbrev pub FateSoFar : StreamKind → FormulaOf → List ℕ → ℕ → Option Fate → Type 0
-FateSoFar kind f = FateSoFarBy (BytesCome kind f)
+FateSoFar kind f = FateSoFarBy (BytesFate kind f)
 
 -- and where the stream ends with them
 abbrev pub FateOf : StreamKind → FormulaOf → List ℕ → ℕ → Fate → Type 0
-FateOf kind f = FateBy (BytesCome kind f)
+FateOf kind f = FateBy (BytesFate kind f)
 
 -- the fate so far of the bytes of a stream of a kind, as a certificate of the formula that the bytes of a job's file are
 abbrev pub IsFateSoFar : StreamKind → List ℕ → List ℕ → ℕ → Option Fate → Type 0

@@ -22,21 +22,21 @@ use Rattle.proof_stream.specs.File.{FileOf, end_fault, end_says, taken_of}
 use Rattle.cert_judge.specs.declared.stream.Outcome.{Outcome}
 use Rattle.cert_judge.specs.declared.stream.Outcome.TheVariants.{Refuted, Satisfied, Unknown as UnknownOutcome, Bad}
 
--- what more sayings come to, from the certificate on
-abbrev pub ComesBy : {S C : Type 0} → Meaning S C → CertificateOf C → Option Outcome → List S → Option Fate → Type 0
-ComesBy m c None ss fate = m.comes c.formula c.checker (values_of c.bits) ss fate
-ComesBy m c (Some o) ss fate = fate ≡ Some (fate_of o)
+-- the fate of more sayings, from the certificate on
+abbrev pub FateFrom : {S C : Type 0} → Meaning S C → CertificateOf C → Option Outcome → List S → Option Fate → Type 0
+FateFrom m c None ss fate = m.comes c.formula c.checker (values_of c.bits) ss fate
+FateFrom m c (Some o) ss fate = fate ≡ Some (fate_of o)
 
 -- and the values that they name
 abbrev pub NamesBy : {S C : Type 0} → Meaning S C → CertificateOf C → Option Outcome → List S → Assignment → Type 0
 NamesBy m c None ss x = named_from (values_of c.bits) (m.lits ss) ≡ x
 NamesBy m c (Some o) ss x = (o ≡ Satisfied) × (values_of c.bits ≡ x)
 
--- The sayings lead from the one certificate to the other: what more comes to from there is what all comes to.
+-- The sayings lead from the one certificate to the other: the fate of more sayings from there is the fate of all.
 pub record Leads {S C : Type 0} (m : Meaning S C) (old : CertificateOf C) (ss : List S) (new : CertificateOf C) : Type 0 where
   pub formula : new.formula ≡ old.formula
   pub size : length new.bits ≡ length old.bits
-  pub fate : (rest : List S) (fate : Option Fate) → ComesBy m new new.outcome rest fate → m.comes old.formula old.checker (values_of old.bits) (ss ++ rest) fate
+  pub fate : (rest : List S) (fate : Option Fate) → FateFrom m new new.outcome rest fate → m.comes old.formula old.checker (values_of old.bits) (ss ++ rest) fate
   pub values : (rest : List S) (x : Assignment) → NamesBy m new new.outcome rest x → named_from (values_of old.bits) (m.lits (ss ++ rest)) ≡ x
   pub satisfied : new.outcome ≡ Some Satisfied → Satisfies (values_of new.bits) new.formula.clauses
 
@@ -87,9 +87,9 @@ pub record HasEnded (w : FileOf) (old new : CertificateOf CheckerOf) : Type 0 wh
   pub tries : Tries lines lines.outcome (taken_of w) tried
   pub ended : new ≡ ended_at (taken_of w) tried tried.outcome
 
--- The bytes came to nothing yet, and no fault is in them: the parser is what it is after them, and whatever more is said comes from the
--- certificate on to what it comes to after all that they say.
-pub record IsAt {W S C : Type 0} (p : Parsing W S) (m : Meaning S C) (start w : W) (c : CertificateOf C) (bytes : List ℕ) : Type 0 where
+-- The bytes are undecided, and no fault is in them: the parser is what it is after them, and whatever more is said has from the
+-- certificate on the fate that it has after all that they say.
+pub record AwaitsMore {W S C : Type 0} (p : Parsing W S) (m : Meaning S C) (start w : W) (c : CertificateOf C) (bytes : List ℕ) : Type 0 where
   pub parser : w ≡ p.after start bytes
   pub whole : p.fault w ≡ None
   pub undecided : c.outcome ≡ None

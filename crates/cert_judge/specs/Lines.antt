@@ -6,8 +6,8 @@ use Rattle.cert_stream.specs.LratTelling as lrat_telling
 use Rattle.proof_stream.specs.File as file
 use Rattle.proof_stream.specs.declared.spot.Form.TheVariants.{Text, Binary}
 use Rattle.cert_judge.specs.Certificate.{LineOf, outcome_or}
-use Rattle.cert_judge.specs.Kinds.{BytesCome, values_named}
-use Rattle.cert_judge.specs.Leading.{IsAt}
+use Rattle.cert_judge.specs.Kinds.{BytesFate, values_named}
+use Rattle.cert_judge.specs.Leading.{AwaitsMore}
 use Rattle.cert_judge.specs.Outcomes.{fate_told}
 use Rattle.cert_judge.specs.Reading.{drup_meaning, drup_parsing, file_parsing, lrat_meaning, lrat_parsing}
 use Rattle.cert_judge.specs.Values.{values_of}
@@ -83,34 +83,34 @@ abbrev pub AreValuesTold : FormulaOf → Assignment → List Bool → Option Out
 AreValuesTold f x bits None = Unit {0}
 AreValuesTold f x bits (Some o) = AreValuesOf f x bits o
 
--- the bytes, all of which were taken, came to nothing yet, and no fault is in them
-abbrev pub At : {S : Type 0} → Lines S → List ℕ → Type 0
-At (Drup l) bytes = IsAt drup_parsing drup_meaning (drup_telling.fresh l.certificate.formula.vars) l.parser l.certificate bytes × (l.parser.taken ≡ length bytes)
-At (Lrat l) bytes = IsAt lrat_parsing lrat_meaning (lrat_telling.fresh l.certificate.formula.vars) l.parser l.certificate bytes × (l.parser.taken ≡ length bytes)
-At (Proof l) bytes = IsAt file_parsing drup_meaning (file.fresh Text l.certificate.formula.vars) l.parser l.certificate bytes × (file.taken_of l.parser ≡ length bytes)
-At (ProofBinary l) bytes = IsAt file_parsing drup_meaning (file.fresh Binary l.certificate.formula.vars) l.parser l.certificate bytes × (file.taken_of l.parser ≡ length bytes)
+-- the bytes, all of which were taken, are undecided, and no fault is in them
+abbrev pub LinesAwaitMore : {S : Type 0} → Lines S → List ℕ → Type 0
+LinesAwaitMore (Drup l) bytes = AwaitsMore drup_parsing drup_meaning (drup_telling.fresh l.certificate.formula.vars) l.parser l.certificate bytes × (l.parser.taken ≡ length bytes)
+LinesAwaitMore (Lrat l) bytes = AwaitsMore lrat_parsing lrat_meaning (lrat_telling.fresh l.certificate.formula.vars) l.parser l.certificate bytes × (l.parser.taken ≡ length bytes)
+LinesAwaitMore (Proof l) bytes = AwaitsMore file_parsing drup_meaning (file.fresh Text l.certificate.formula.vars) l.parser l.certificate bytes × (file.taken_of l.parser ≡ length bytes)
+LinesAwaitMore (ProofBinary l) bytes = AwaitsMore file_parsing drup_meaning (file.fresh Binary l.certificate.formula.vars) l.parser l.certificate bytes × (file.taken_of l.parser ≡ length bytes)
 
 -- before the first byte
 pub record Starts {S : Type 0} (f : FormulaOf) (k : StreamKind) (lines : Lines S) : Type 0 where
   pub formula : lines_formula lines ≡ f
   pub kind : lines_kind lines ≡ k
-  pub at : At lines []
+  pub at : LinesAwaitMore lines []
   pub undecided : lines_outcome lines ≡ None
   pub fits : Fits lines
   pub taken : lines_taken lines ≡ 0
 
--- The outcome is what the bytes come to, with the values that they name; they are all where they ended.
+-- The outcome is the fate of the bytes, with the values that they name; they are all where they ended.
 pub record Tells {S : Type 0} (ended : Bool) (lines : Lines S) (bytes : List ℕ) : Type 0 where
-  pub comes : BytesCome (lines_kind lines) (lines_formula lines) ended bytes (fate_told (lines_outcome lines))
+  pub comes : BytesFate (lines_kind lines) (lines_formula lines) ended bytes (fate_told (lines_outcome lines))
   pub values : AreValuesTold (lines_formula lines) (values_named (lines_kind lines) (lines_formula lines).vars ended bytes) (lines_bits lines) (lines_outcome lines)
 
 -- bytes were taken after others
 pub record Takes {S : Type 0} (lines : Lines S) (bytes : List ℕ) : Type 0 where
   pub tells : Tells false lines bytes
-  pub at : lines_outcome lines ≡ None → At lines bytes
+  pub at : lines_outcome lines ≡ None → LinesAwaitMore lines bytes
 
 abbrev pub Took : {S : Type 0} → Lines S → List ℕ → Lines S → Type 0
-Took old piece new = IsSameLines old new × ((bytes : List ℕ) → At old bytes → Takes new (bytes ++ piece))
+Took old piece new = IsSameLines old new × ((bytes : List ℕ) → LinesAwaitMore old bytes → Takes new (bytes ++ piece))
 
 -- a piece is taken as far as there is room for it; what is too much is an outcome where there is no other
 abbrev pub TakesPiece : {S : Type 0} → ℕ → ℕ → Lines S → List ℕ → Lines S → Type 0
@@ -120,7 +120,7 @@ TakesPiece {S} most room old piece new =
 
 -- the stream's end was taken
 abbrev pub TookEnd : {S : Type 0} → Lines S → Lines S → Type 0
-TookEnd old new = IsSameLines old new × ((bytes : List ℕ) → At old bytes → Tells true new bytes)
+TookEnd old new = IsSameLines old new × ((bytes : List ℕ) → LinesAwaitMore old bytes → Tells true new bytes)
 
 -- without an outcome it is too early
 abbrev pub TakesEnd : {S : Type 0} → Lines S → Lines S → Type 0

@@ -1,10 +1,10 @@
--- What a hinted stream comes to.
+-- The fate of a hinted stream.
 use Rattle.std.specs.Prelude.{◌&&◌, cond, not, is_some, map, ◌≡◌, ◌≢◌, ◌⊎◌, ℕ, ◌<◌, ◌≤◌, Bool, List, [], ◌∷◌, length, Option, Some, None}
 use Rattle.cnf_form.specs.Cnf.{LitOf, FormulaOf, Assignment}
 use Rattle.cert_stream.specs.LratLines.{sayings}
 use Rattle.cert_stream.specs.LratTelling.{LratSaying, IsClause, IsDelete, IsValue, IsValuesEnd, IsUnknown, IsFault}
 use Rattle.sby_terms.specs.declared.names.Answer.TheVariants.{Unsat}
-use Rattle.cert_judge.specs.Fate.{Fate, Found, Unknown, Bad, ValuesComeTo, cert_kind}
+use Rattle.cert_judge.specs.Fate.{Fate, Found, Unknown, Bad, ValuesFate, cert_kind}
 use Rattle.cert_judge.specs.Values.{named, named_from, unnamed}
 use Rattle.cert_judge.specs.declared.stream.CertKind.TheVariants.{BadId, BadHint, NotHinted}
 use Rattle.lrat_check.specs.Checking.{HintedOf, live_of}
@@ -51,8 +51,8 @@ abbrev pub ids_of : List Hint → List ℕ
 ids_of hints = map (λ (h : Hint). h.id) hints
 
 -- a clause is tried with its live hints: the empty one completes the certificate, after another one what comes then counts
-abbrev pub HintsComeTo : Live → List LitOf → List Hint → ℕ → Type 0 → Option Fate → Type 0
-HintsComeTo live lits hints place rest fate =
+abbrev pub HintsFate : Live → List LitOf → List Hint → ℕ → Type 0 → Option Fate → Type 0
+HintsFate live lits hints place rest fate =
     (IsHinted live lits (ids_of hints) × (lits ≡ []) × (fate ≡ Some (Found Unsat)))
     ⊎ (IsHinted live lits (ids_of hints) × (lits ≢ []) × rest)
     ⊎ ((IsHinted live lits (ids_of hints) → ⊥) × (fate ≡ Some (Bad NotHinted place)))
@@ -63,10 +63,10 @@ ByHints None rest fate = rest
 ByHints (Some h) rest fate = fate ≡ Some (Bad BadHint h.place)
 
 -- its id has to be above all earlier ones, then its hints have to be good, then they have to admit it
-abbrev pub ClauseComesTo : Held → ℕ → List LitOf → List Hint → ℕ → Type 0 → Option Fate → Type 0
-ClauseComesTo F id lits hints place rest fate =
+abbrev pub ClauseFate : Held → ℕ → List LitOf → List Hint → ℕ → Type 0 → Option Fate → Type 0
+ClauseFate F id lits hints place rest fate =
     ((id ≤ F.last) × (fate ≡ Some (Bad BadId place)))
-    ⊎ ((F.last < id) × ByHints (first_bad F.live hints) (HintsComeTo F.live lits hints place rest fate) fate)
+    ⊎ ((F.last < id) × ByHints (first_bad F.live hints) (HintsFate F.live lits hints place rest fate) fate)
 
 abbrev pub added : Held → ℕ → List LitOf → Held
 added F id lits = record { live = put F.live id (Some lits); last = id }
@@ -74,28 +74,28 @@ added F id lits = record { live = put F.live id (Some lits); last = id }
 abbrev pub deleted : Held → List Hint → Held
 deleted F ids = record { live = without F.live ids; last = F.last }
 
--- What sayings come to, from a formula with the clauses C, where F is held and the values x were named: each clause has to be admitted by its
--- hints, and is live then; the empty one, or values that satisfy C, complete the certificate. None where they come to nothing yet.
-abbrev pub ComesTo : List (List LitOf) → Held → Assignment → List LratSaying → Option Fate → Type 0
-ComesTo C F x [] fate = fate ≡ None
-ComesTo C F x (IsClause id lits hints place ∷ ss) fate = ClauseComesTo F id lits hints place (ComesTo C (added F id lits) x ss fate) fate
-ComesTo C F x (IsDelete ids ∷ ss) fate = ComesTo C (deleted F ids) x ss fate
-ComesTo C F x (IsValue l ∷ ss) fate = ComesTo C F (named x l) ss fate
-ComesTo C F x (IsValuesEnd ∷ ss) fate = ValuesComeTo C x fate
-ComesTo C F x (IsUnknown ∷ ss) fate = fate ≡ Some Unknown
-ComesTo C F x (IsFault f ∷ ss) fate = fate ≡ Some (Bad (cert_kind f.kind) f.byte)
+-- The fate of sayings, for a formula with the clauses C, where F is held and the values x were named: each clause has to be admitted by its
+-- hints, and is live then; the empty one, or values that satisfy C, complete the certificate. None where they are undecided.
+abbrev pub SayingsFate : List (List LitOf) → Held → Assignment → List LratSaying → Option Fate → Type 0
+SayingsFate C F x [] fate = fate ≡ None
+SayingsFate C F x (IsClause id lits hints place ∷ ss) fate = ClauseFate F id lits hints place (SayingsFate C (added F id lits) x ss fate) fate
+SayingsFate C F x (IsDelete ids ∷ ss) fate = SayingsFate C (deleted F ids) x ss fate
+SayingsFate C F x (IsValue l ∷ ss) fate = SayingsFate C F (named x l) ss fate
+SayingsFate C F x (IsValuesEnd ∷ ss) fate = ValuesFate C x fate
+SayingsFate C F x (IsUnknown ∷ ss) fate = fate ≡ Some Unknown
+SayingsFate C F x (IsFault f ∷ ss) fate = fate ≡ Some (Bad (cert_kind f.kind) f.byte)
 
 -- the formula's clauses have the ids from 1
 abbrev pub held_first : List (List LitOf) → Held
 held_first C = record { live = numbered C; last = length C }
 
--- what the sayings of a stream come to, as a certificate of a formula
-abbrev pub Comes : FormulaOf → List LratSaying → Option Fate → Type 0
-Comes f ss fate = ComesTo f.clauses (held_first f.clauses) unnamed ss fate
+-- the fate of a stream's sayings, as a certificate of a formula
+abbrev pub StreamFate : FormulaOf → List LratSaying → Option Fate → Type 0
+StreamFate f ss fate = SayingsFate f.clauses (held_first f.clauses) unnamed ss fate
 
--- what bytes of a stream come to, which are all where it ended
-abbrev pub BytesCome : FormulaOf → Bool → List ℕ → Option Fate → Type 0
-BytesCome f ended bytes fate = Comes f (sayings f.vars ended bytes) fate
+-- the fate of a stream's bytes, which are all where it ended
+abbrev pub BytesFate : FormulaOf → Bool → List ℕ → Option Fate → Type 0
+BytesFate f ended bytes fate = StreamFate f (sayings f.vars ended bytes) fate
 
 -- the values that they name
 abbrev pub values_named : ℕ → Bool → List ℕ → Assignment

@@ -1,4 +1,4 @@
--- What the output of a solver that leaves a proof file comes to.
+-- The fate of the output of a solver that leaves a proof file.
 use Rattle.std.specs.Prelude.{◌≡◌, ℕ, Bool, true, false, List, Option, Some, None}
 use Rattle.cert_judge.specs.Fate.{Fate, Found, Unknown, Bad}
 use Rattle.cert_judge.specs.Kinds.{IsFate, IsFateSoFar}

@@ -1,7 +1,7 @@
 -- A judge of an output, and what its answers tell.
 use Rattle.std.specs.Prelude.{◌≡◌, ℕ, Bool, true, false, List, ◌++◌, Option, Some}
 use Rattle.cnf_form.specs.Dimacs.{IsDimacs}
-use Rattle.cert_judge.specs.Judging.{IsSameJudge, JudgeOf, Stands as StreamStands, bits_of, formula_of, kind_of, outcome_of}
+use Rattle.cert_judge.specs.Judging.{IsSameJudge, JudgeOf, HasTaken as StreamHasTaken, bits_of, formula_of, kind_of, outcome_of}
 use Rattle.cert_judge.specs.Kinds.{stream_values}
 use Rattle.cert_judge.specs.Lines.{AreValuesTold}
 use Rattle.cert_judge.specs.Output.{has_values, stream_of}
@@ -20,16 +20,16 @@ pub record OutputOf (S : Type 0) : Type 0 where
   pub values : Bool
 
 -- the judge took the bytes of an output
-pub record Stands {S : Type 0} (o : OutputOf S) (bytes : List ℕ) : Type 0 where
+pub record HasTaken {S : Type 0} (o : OutputOf S) (bytes : List ℕ) : Type 0 where
   pub kind : kind_of o.judge ≡ Drup
-  pub judge : StreamStands o.judge (given Start bytes)
+  pub judge : StreamHasTaken o.judge (given Start bytes)
   pub spot : o.spot ≡ spot_after Start bytes
   pub values : o.values ≡ values_after Start false bytes
 
 -- a judge of a stream took bytes; its outcome, once there is one, and out of memory stay
 pub record Gave {S : Type 0} (old : JudgeOf S) (bytes : List ℕ) (new : JudgeOf S) : Type 0 where
   pub same : IsSameJudge old new
-  pub stands : (text : List ℕ) → StreamStands old text → StreamStands new (text ++ bytes)
+  pub stands : (text : List ℕ) → StreamHasTaken old text → StreamHasTaken new (text ++ bytes)
   pub again : (o : Outcome) → old.wanting ≡ false → outcome_of old ≡ Some o → new ≡ old
   pub wanting : old.wanting ≡ true → new.wanting ≡ true
 
@@ -41,7 +41,7 @@ pub record Goes {S : Type 0} (old : OutputOf S) (bytes : List ℕ) (new : Output
 
 -- The judge took the bytes, and answers their fate so far for each file of its formula, with the values that they name.
 pub record Feeds {S : Type 0} (old new : OutputOf S) (bytes : List ℕ) (o : Option Outcome) : Type 0 where
-  pub stands : Stands new bytes
+  pub stands : HasTaken new bytes
   pub outcome : outcome_of new.judge ≡ o
   pub fate : (file : List ℕ) → IsDimacs file (formula_of old.judge) → IsOutputFateSoFar file bytes old.judge.most (fate_told o)
   pub values : AreValuesTold (formula_of old.judge) (stream_values Drup (formula_of old.judge).vars false (stream_of false bytes) old.judge.most) (bits_of new.judge) o

@@ -1,4 +1,4 @@
--- How the bytes of a stream are read, and what comes of what they say.
+-- How the bytes of a stream are read, and the fate of what they say.
 use Rattle.std.specs.Prelude.{ℕ, List, Option}
 use Rattle.cnf_form.specs.Cnf.{LitOf, Assignment, FormulaOf}
 use Rattle.cert_stream.specs.Machine as drup_machine
@@ -24,7 +24,7 @@ pub record Parsing (W S : Type 0) : Type 0 where
   pub said : W → List ℕ → List S
   pub fault : W → Option ParseFault
 
--- For what is said and what a checker holds, C: what a fault says, the values that sayings name, and what sayings come to from a checker and
+-- For what is said and what a checker holds, C: what a fault says, the values that sayings name, and the fate of sayings from a checker and
 -- values on, and from a formula on.
 pub record Meaning (S C : Type 0) : Type 1 where
   pub fault_said : Option ParseFault → List S
@@ -40,8 +40,8 @@ abbrev pub drup_meaning : Meaning Saying CheckerOf
 drup_meaning = record {
   fault_said = drup_telling.fault_said;
   lits = drup.value_lits;
-  comes = λ f c x ss fate. drup.ComesTo f.clauses c.clauses x ss fate;
-  begins = drup.Comes;
+  comes = λ f c x ss fate. drup.SayingsFate f.clauses c.clauses x ss fate;
+  begins = drup.StreamFate;
 }
 
 -- hinted text
@@ -52,8 +52,8 @@ abbrev pub lrat_meaning : Meaning LratSaying HintedOf
 lrat_meaning = record {
   fault_said = lrat_telling.fault_said;
   lits = lrat.value_lits;
-  comes = λ f c x ss fate. lrat.ComesTo f.clauses (lrat.held c) x ss fate;
-  begins = lrat.Comes;
+  comes = λ f c x ss fate. lrat.SayingsFate f.clauses (lrat.held c) x ss fate;
+  begins = lrat.StreamFate;
 }
 
 -- a proof file, whose lines say what those of DRUP text say

@@ -88,11 +88,11 @@ given_by Within b = b ∷ []
 given_by (Amid spot) b = cond (eqb b 10) (amid_end spot ++ cond (amid_unknown spot) 115 10 ∷ []) (amid_given spot b)
 
 -- whether a line of values is among those so far
-abbrev pub values_behind : Spot → Bool → ℕ → Bool
-values_behind Start values b = values
-values_behind (Held head) values b = values || (is_values head && ends_word b)
-values_behind Within values b = values
-values_behind (Amid spot) values b = values
+abbrev pub next_values : Spot → Bool → ℕ → Bool
+next_values Start values b = values
+next_values (Held head) values b = values || (is_values head && ends_word b)
+next_values Within values b = values
+next_values (Amid spot) values b = values
 
 abbrev pub values_at_end : Spot → Bool → Bool
 values_at_end Start values = values
@@ -118,4 +118,4 @@ given spot (b ∷ bs) = given_by spot b ++ given (next_spot spot b) bs
 
 abbrev pub values_after : Spot → Bool → List ℕ → Bool
 values_after spot values [] = values
-values_after spot values (b ∷ bs) = values_after (next_spot spot b) (values_behind spot values b) bs
+values_after spot values (b ∷ bs) = values_after (next_spot spot b) (next_values spot values b) bs

@@ -1,7 +1,7 @@
 // The judge of one stream.
 
 ghost use Rattle.std.specs.Prelude.{◌≡◌, ◌≤◌, ◌<◌, ◌+◌, ◌^◌, ◌++◌, true, false, [], ℕ, List, length, Option, Some, None, IfOk, OnErr, IsErr, Ok};
-ghost use Rattle.cert_judge.specs.Judging.{Feeds, IsOver, IsSameJudge, JudgeOf, Stands, bits_of, formula_of, kind_of, outcome_of};
+ghost use Rattle.cert_judge.specs.Judging.{Feeds, IsOver, IsSameJudge, JudgeOf, HasTaken, bits_of, formula_of, kind_of, outcome_of};
 ghost use Rattle.cert_judge.specs.Lines.{Fits, TakesEnd, TakesPiece, lines_outcome, lines_taken};
 ghost use Rattle.cert_judge.specs.declared.stream.Outcome.{Outcome};
 
@@ -40,7 +40,7 @@ impl<S: ClauseSource> Judge<S> {
         ensures formula { IfOk result (λ j. formula_of j ≡ S.formula source) }
         ensures kind { IfOk result (λ j. kind_of j ≡ kind) }
         ensures most { IfOk result (λ j. j.most ≡ most) }
-        ensures stands { IfOk result (λ j. Stands j []) }
+        ensures stands { IfOk result (λ j. HasTaken j []) }
         ensures open { IfOk result (λ j. outcome_of j ≡ None) }
     {
         Ok(Judge {
@@ -56,7 +56,7 @@ impl<S: ClauseSource> Judge<S> {
     /// An outcome is answered again by every later call, and out of memory too.
     pub fn feed(&mut self, piece: &[u8]) -> Result<Option<Outcome>, AllocError>
         ensures same { IfOk result (λ _. IsSameJudge self.old self.new) }
-        ensures feeds { (bytes : List ℕ) → Stands self.old bytes → IfOk result (λ o. Feeds self.old self.new (bytes ++ piece.now) o) }
+        ensures feeds { (bytes : List ℕ) → HasTaken self.old bytes → IfOk result (λ o. Feeds self.old self.new (bytes ++ piece.now) o) }
         ensures again { (o : Outcome) → self.old.wanting ≡ false → outcome_of self.old ≡ Some o → (result ≡ Ok (Some o)) × (self.new ≡ self.old) }
         ensures wanting { self.old.wanting ≡ true → IsErr result }
         ensures err { OnErr result (self.new.wanting ≡ true) }
@@ -78,7 +78,7 @@ impl<S: ClauseSource> Judge<S> {
     /// The stream ends. Answers its fate, and from then on always.
     pub fn end(&mut self) -> Result<Outcome, AllocError>
         ensures same { IfOk result (λ _. IsSameJudge self.old self.new) }
-        ensures ends { (bytes : List ℕ) → Stands self.old bytes → IfOk result (λ o. IsOver self.new bytes o) }
+        ensures ends { (bytes : List ℕ) → HasTaken self.old bytes → IfOk result (λ o. IsOver self.new bytes o) }
         ensures again { (o : Outcome) → self.old.wanting ≡ false → outcome_of self.old ≡ Some o → (result ≡ Ok o) × (self.new ≡ self.old) }
         ensures wanting { self.old.wanting ≡ true → IsErr result }
         ensures err { OnErr result (self.new.wanting ≡ true) }

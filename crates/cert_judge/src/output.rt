@@ -1,11 +1,10 @@
 // The judge of one output.
 
 ghost use Rattle.std.specs.Prelude.{◌≡◌, ◌≤◌, ◌<◌, ◌+◌, ◌^◌, ◌++◌, true, false, [], ◌∷◌, ℕ, List, length, take, Option, Some, None, IfOk, OnErr, IsErr, Ok};
-ghost use Rattle.cert_stream.specs.Text.{NoFeed};
 ghost use Rattle.cert_judge.specs.Judging.{IsSameJudge, bits_of, formula_of, outcome_of};
 ghost use Rattle.cert_judge.specs.Outcomes.{fate_of, fate_told};
 ghost use Rattle.cert_judge.specs.OutputFate.{own_fate};
-ghost use Rattle.cert_judge.specs.OutputJudging.{Ends, Feeds, Gave, Goes, OutputOf, Stands};
+ghost use Rattle.cert_judge.specs.OutputJudging.{Ends, Feeds, Gave, Goes, OutputOf, HasTaken};
 ghost use Rattle.cert_judge.specs.Spots.{amid_given, given_at_end, given_by, values_at_end};
 ghost use Rattle.cert_judge.specs.declared.spot.Spot.TheVariants.{Start, Held, Within, Amid};
 ghost use Rattle.cert_judge.specs.declared.stream.Outcome.{Outcome};
@@ -13,11 +12,11 @@ ghost use Rattle.cert_judge.specs.declared.stream.Outcome.{Outcome};
 use crate::judging::Judge;
 use crate::spot::{
     AmidSpot, Spot, amid_feed, amid_head, ends_word, head_given, is_blank, is_claim, is_within,
-    next_spot, values_at_end, values_behind,
+    next_spot, next_values, values_at_end,
 };
 use crate::stream::{CertKind, Outcome, StreamKind};
+use cert_stream::before_feed;
 use clause_source::ClauseSource;
-use memchr::memchr;
 use std::alloc::{AllocError, Global};
 use std::marker::Model;
 
@@ -39,18 +38,6 @@ impl<S: ClauseSource> Model for OutputJudge<S> {
     ghost view = { λ a. record { judge = a.judge; spot = a.spot; values = a.values } };
 
     ghost invariant = { λ a. Unit {0} };
-}
-
-// How many bytes stand before the first line feed.
-#[tactic(auto, using(cert_stream::proofs::Passing::no_feed_take))]
-fn before_feed(bytes: &[u8]) -> usize
-    ensures within { result ≤ length bytes.now }
-    ensures none { NoFeed (take result bytes.now) }
-{
-    match memchr(b'\n', bytes) {
-        Some(count) => count,
-        None => bytes.len(),
-    }
 }
 
 // Hands bytes on as a stream's.
@@ -146,7 +133,7 @@ impl<S: ClauseSource> OutputJudge<S> {
         requires limit { most ≤ 2 ^ 32 }
         ensures formula { IfOk result (λ o. formula_of o.judge ≡ S.formula source) }
         ensures most { IfOk result (λ o. o.judge.most ≡ most) }
-        ensures stands { IfOk result (λ o. Stands o []) }
+        ensures stands { IfOk result (λ o. HasTaken o []) }
         ensures open { IfOk result (λ o. outcome_of o.judge ≡ None) }
     {
         Ok(OutputJudge {
@@ -175,7 +162,7 @@ impl<S: ClauseSource> OutputJudge<S> {
         ensures err { OnErr result (self.new.judge.wanting ≡ true) }
     {
         give_byte(&mut self.judge, self.spot, b)?;
-        self.values = values_behind(self.spot, self.values, b);
+        self.values = next_values(self.spot, self.values, b);
         self.spot = next_spot(self.spot, b);
         Ok(())
     }
@@ -201,7 +188,7 @@ impl<S: ClauseSource> OutputJudge<S> {
     /// An outcome is answered again by every later call, and out of memory too.
     pub fn feed(&mut self, piece: &[u8]) -> Result<Option<Outcome>, AllocError>
         ensures same { IfOk result (λ _. IsSameJudge self.old.judge self.new.judge) }
-        ensures feeds { (bytes : List ℕ) → Stands self.old bytes → IfOk result (λ o. Feeds self.old self.new (bytes ++ piece.now) o) }
+        ensures feeds { (bytes : List ℕ) → HasTaken self.old bytes → IfOk result (λ o. Feeds self.old self.new (bytes ++ piece.now) o) }
         ensures again { (o : Outcome) → self.old.judge.wanting ≡ false → outcome_of self.old.judge ≡ Some o → IfOk result (λ answer. (answer ≡ Some o) × (self.new.judge ≡ self.old.judge)) }
         ensures wanting { self.old.judge.wanting ≡ true → IsErr result }
         ensures err { OnErr result (self.new.judge.wanting ≡ true) }
@@ -214,7 +201,7 @@ impl<S: ClauseSource> OutputJudge<S> {
     /// it is no longer than `most` bytes, has no line of values, and doesn't say that the solver doesn't know.
     pub fn end(&mut self) -> Result<Option<Outcome>, AllocError>
         ensures same { IfOk result (λ _. IsSameJudge self.old.judge self.new.judge) }
-        ensures ends { (bytes : List ℕ) → Stands self.old bytes → IfOk result (λ o. Ends self.old self.new bytes o) }
+        ensures ends { (bytes : List ℕ) → HasTaken self.old bytes → IfOk result (λ o. Ends self.old self.new bytes o) }
         ensures kept { IfOk result (λ _. (self.new.spot ≡ self.old.spot) × (self.new.values ≡ self.old.values)) }
         ensures again { (o : Outcome) → self.old.judge.wanting ≡ false → outcome_of self.old.judge ≡ Some o
             → IfOk result (λ answer. (fate_told answer ≡ own_fate (values_at_end self.old.spot self.old.values) (fate_of o)) × (self.new ≡ self.old)) }

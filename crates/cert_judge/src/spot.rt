@@ -2,7 +2,7 @@
 
 ghost use Rattle.std.specs.Prelude.{◌≡◌, ◌+◌, IsTrue, ◌||◌, ◌&&◌, Bool, cond, eqb, leb};
 ghost use Rattle.cert_stream.specs.Text.{is_blank};
-ghost use Rattle.cert_judge.specs.Spots.{IsWithin, amid_next, amid_unknown, ends_word, head_given, is_letter, is_values, next_spot, parted, values_behind, values_at_end};
+ghost use Rattle.cert_judge.specs.Spots.{IsWithin, amid_next, amid_unknown, ends_word, head_given, is_letter, is_values, next_spot, parted, next_values, values_at_end};
 ghost use Rattle.cert_judge.specs.Output.{is_claim};
 
 /// Where the bytes so far end in their line.
@@ -128,7 +128,7 @@ fn amid_next(spot: AmidSpot, b: u8) -> AmidSpot
     }
 }
 
-// After a line feed, behind a line's first visible byte.
+// After a line feed, after a line's first visible byte.
 fn after_head(head: u8) -> Spot
     ensures { result ≡ cond (is_values head) (Spot.Amid AmidSpot.Start) Spot.Start }
 {
@@ -139,7 +139,7 @@ fn after_head(head: u8) -> Spot
     }
 }
 
-/// After one byte more.
+/// After one more byte.
 pub(crate) fn next_spot(spot: Spot, b: u8) -> Spot
     ensures { result ≡ next_spot spot b }
 {
@@ -174,9 +174,9 @@ pub(crate) fn amid_head(head: u8) -> u8
     if head == b's' { b' ' } else { head }
 }
 
-/// Whether a line of values is among those so far, after one byte more.
-pub(crate) fn values_behind(spot: Spot, values: bool, b: u8) -> bool
-    ensures { result ≡ values_behind spot values b }
+/// Whether a line of values is among those so far, after one more byte.
+pub(crate) fn next_values(spot: Spot, values: bool, b: u8) -> bool
+    ensures { result ≡ next_values spot values b }
 {
     match spot {
         Spot::Held(head) => values || head == b'v' && ends_word(b),

@@ -1,4 +1,4 @@
-// Streams, and what they come to.
+// Streams, and the outcomes of judging them.
 
 ghost use Rattle.std.specs.Prelude.{◌≡◌, IfNone, IfSome};
 ghost use Rattle.cert_judge.specs.Fate.{cert_kind};
@@ -131,7 +131,7 @@ pub struct BadCert {
     pub at: u64,
 }
 
-/// What a stream comes to.
+/// The outcome of judging a stream.
 #[derive(Clone, Copy, Debug, PartialEq, Eq)]
 pub enum Outcome {
     /// An empty clause was admitted: no values satisfy the formula.

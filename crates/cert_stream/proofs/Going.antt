@@ -3,7 +3,7 @@ use Rattle.std.proofs.Common.{◌≡◌, ◌⊎◌, ℕ, ◌+◌, ◌≤◌, Boo
 use Rattle.std.proofs.lemmas.Bool.{cases_Bool, eqb-true, leb-true, le-leb}
 use Rattle.cnf_form.specs.Cnf.{LitOf}
 use Rattle.cert_stream.specs.Text.{is_blank, is_digit}
-use Rattle.cert_stream.specs.Machine.{DrupOf, Turn, turn, counted, read, quiet, fails, end_part, end_word, unended, end_line, feed_behind, goes_on, begins_literal, spelling, visible, visible_start, visible_plain, visible_first, visible_digit, visible_part, visible_spelled, emptied, literal, with_digit}
+use Rattle.cert_stream.specs.Machine.{DrupOf, Turn, turn, counted, read, quiet, fails, end_part, end_word, unended, end_line, feed_after, goes_on, begins_literal, spelling, visible, visible_start, visible_plain, visible_first, visible_digit, visible_part, visible_spelled, emptied, literal, with_digit}
 use Rattle.cert_stream.specs.Telling.{after}
 use Rattle.cert_stream.specs.declared.mode.ListKind.{ListKind}
 use Rattle.cert_stream.specs.declared.mode.ListKind.TheVariants.{Clause as ClauseList, Deletion, Values}
@@ -107,8 +107,8 @@ end_line_moves w Closed n = quiet_moves w (Start false) tt
 end_line_moves w (Bad f) n = quiet_moves w (Bad f) n
 end_line_moves w Lost n = absurd n
 
-behind_moves : (w : DrupOf) (t : Turn) → Moves w t → Moves w (feed_behind t)
-behind_moves w t h =
+after_moves : (w : DrupOf) (t : Turn) → Moves w t → Moves w (feed_after t)
+after_moves w t h =
     let n : Next t.to.vars t.to.taken t.to.mode = subst (λ z. Next z t.to.taken t.to.mode) (sym h.vars) (subst (λ z. Next w.vars z t.to.mode) (sym h.taken) h.next) in
     let k = end_line_moves t.to t.to.mode n in
     record {
@@ -196,7 +196,7 @@ visible_moves w Lost b n = absurd n
 read_moves : (w : DrupOf) (b : ℕ) → Going w.vars w.mode → Moves w (read w b)
 read_moves w b n =
     elim (cases_Bool (eqb b 10)) [
-      | inl t ↦ rw t (behind_moves w (end_word w w.mode) (end_word_moves w w.mode n))
+      | inl t ↦ rw t (after_moves w (end_word w w.mode) (end_word_moves w w.mode n))
       | inr f ↦ rw f (elim (cases_Bool (is_blank b)) [ inl t ↦ rw t (end_word_moves w w.mode n) | inr g ↦ rw g (visible_moves w w.mode b n) ])
     ]
 

@@ -1,7 +1,7 @@
 -- A byte keeps the variables, and what is said with it is within them.
 use Rattle.std.proofs.Common.{◌≡◌, ℕ, Bool, true, false, cond, not, ◌||◌, eqb, leb, length, Option, Some, None, refl, ap, sym, ◌∙◌, subst}
 use Rattle.cert_stream.specs.Text.{is_blank, is_digit}
-use Rattle.cert_stream.specs.Machine.{DrupOf, Turn, IsPartWithin, IsModeWithin, IsEventWithin, first_of_both, quiet, fails, end_part, end_word, end_line, feed_behind, unended, visible, visible_part, visible_first, visible_digit, visible_start, emptied, begins_literal, goes_on, literal, with_digit, read}
+use Rattle.cert_stream.specs.Machine.{DrupOf, Turn, IsPartWithin, IsModeWithin, IsEventWithin, first_of_both, quiet, fails, end_part, end_word, end_line, feed_after, unended, visible, visible_part, visible_first, visible_digit, visible_start, emptied, begins_literal, goes_on, literal, with_digit, read}
 use Rattle.cert_stream.specs.declared.mode.Event.{Event}
 use Rattle.cert_stream.specs.declared.mode.ListKind.{ListKind}
 use Rattle.cert_stream.specs.declared.mode.ListKind.TheVariants.{Clause as ClauseList, Deletion, Values}
@@ -95,8 +95,8 @@ pub first_within : (vars : ℕ) (d e : Option Event) → IsEventWithin vars d �
 first_within vars None e h k = k
 first_within vars (Some d) e h k = h
 
-behind_keeps : (w : DrupOf) (t : Turn) → Keeps w t → Keeps w (feed_behind t)
-behind_keeps w t h =
+after_keeps : (w : DrupOf) (t : Turn) → Keeps w t → Keeps w (feed_after t)
+after_keeps w t h =
     let k = end_line_keeps t.to t.to.mode in
     (k.0 ∙ h.0, first_within w.vars t.event (end_line t.to t.to.mode).event h.1 (subst (λ n. IsEventWithin n (end_line t.to t.to.mode).event) h.0 k.1))
 
@@ -104,7 +104,7 @@ read_keeps : (w : DrupOf) (b : ℕ) → IsModeWithin w.vars w.mode → Keeps w (
 read_keeps w b i =
     let t : Turn = end_word w w.mode in
     let h : Keeps w t = end_word_keeps w w.mode i in
-    either w (eqb b 10) (feed_behind t) (cond (is_blank b) t (visible w w.mode b)) (behind_keeps w t h) (either w (is_blank b) t (visible w w.mode b) h (visible_keeps w w.mode b))
+    either w (eqb b 10) (feed_after t) (cond (is_blank b) t (visible w w.mode b)) (after_keeps w t h) (either w (is_blank b) t (visible w w.mode b) h (visible_keeps w w.mode b))
 
 pub read_said : (w v : DrupOf) (b : ℕ) (event : Option Event) → IsModeWithin w.vars w.mode → (let t : Turn = record { to = v; event = event } in t) ≡ read w b
     → (v.vars ≡ w.vars) × IsEventWithin w.vars event

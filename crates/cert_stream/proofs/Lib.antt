@@ -1,7 +1,9 @@
 pub mod Keeping
+pub mod Remainders
 pub mod Pieces
 pub mod Cutting
 pub mod Faults
+pub mod Choosing
 pub mod Turning
 pub mod Scanning
 pub mod Digits
@@ -15,6 +17,7 @@ pub mod Status
 pub mod Lining
 pub mod Streams
 pub mod Going
+pub mod FirstFaults
 pub mod Beginnings
 pub mod Within
 pub mod GoingOn

@@ -7,7 +7,7 @@ use Rattle.cert_stream.specs.Text.{Word, flush, words_from, is_blank, NoFeed}
 use Rattle.cert_stream.specs.Machine.{Turn, counted as with_count, end_part}
 use Rattle.cert_stream.specs.Telling.{Saying, told_by}
 use Rattle.cert_stream.specs.Scan.{Scanned, Reads, Misfit, part_next, scan}
-use Rattle.cert_stream.specs.Stream.{bad, ended_says, heard_says, unended_says, behind_says, list_says}
+use Rattle.cert_stream.specs.Stream.{bad, ended_says, heard_says, unended_says, after_says, list_says}
 use Rattle.cert_stream.specs.declared.mode.ListKind.{ListKind}
 use Rattle.cert_stream.specs.declared.mode.ParseFaultKind.{ParseFaultKind}
 use Rattle.cert_stream.specs.declared.mode.ParseFaultKind.TheVariants.{BadLine, BadLiteral}
@@ -23,7 +23,7 @@ use Rattle.cert_stream.proofs.Tails.{Tail, word_says}
 module _ (vars : ℕ) (ended fed counted : Bool) (broken going more : List Saying) (feed : ℕ) (tail : List ℕ) (behind : Tail vars ended fed counted broken going more feed tail) where
   -- after the 0
   closed_text : (place : ℕ) (t : List ℕ) (taken : ℕ) (lits : List LitOf) → NoFeed t → taken + length t ≡ feed
-      → speak ended (parser vars taken place Closed lits) (t ++ tail) ≡ behind_says more (words_from fed taken [] t)
+      → speak ended (parser vars taken place Closed lits) (t ++ tail) ≡ after_says more (words_from fed taken [] t)
   closed_text place [] taken lits h e =
       let k : taken ≡ feed = omega (arith, e) in
       ap (λ z. speak ended (parser vars z place Closed lits) tail) k ∙ behind.closed place lits
@@ -33,7 +33,7 @@ module _ (vars : ℕ) (ended fed counted : Bool) (broken going more : List Sayin
         | inr g ↦
             let w = has_word fed (taken + 1) b [] bs in
             let at : w.word.place ≡ taken = w.place ∙ omega arith in
-            rw (h, g) (bad_ever ended (record { kind = BadLine; byte = taken }) vars (taken + 1) place lits (bs ++ tail) ∙ ap (bad BadLine) (sym at) ∙ ap (behind_says more) (sym w.are))
+            rw (h, g) (bad_ever ended (record { kind = BadLine; byte = taken }) vars (taken + 1) place lits (bs ++ tail) ∙ ap (bad BadLine) (sym at) ∙ ap (after_says more) (sym w.are))
       ]
 
   module _ (kind : ListKind) (place : ℕ) where

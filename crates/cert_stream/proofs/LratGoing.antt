@@ -3,7 +3,7 @@ use Rattle.std.proofs.Common.{◌≡◌, ◌⊎◌, ℕ, ◌+◌, Bool, true, fa
 use Rattle.std.proofs.lemmas.Bool.{cases_Bool, le-leb}
 use Rattle.cert_stream.specs.Text.{is_blank, is_digit}
 use Rattle.cert_stream.specs.Machine.{begins_literal, goes_on, literal, spelling, with_digit}
-use Rattle.cert_stream.specs.LratMachine.{LratOf, Turn, begins_id, counted, emptied, end_id_part, end_line, end_part, end_word, fails, feed_behind, hint, id_digit, id_first, id_goes_on, id_part, lits_ended, most_hints, own_digit, quiet, read, turn, unended, visible, visible_behind, visible_digit, visible_first, visible_part, visible_plain, visible_spelled, visible_start}
+use Rattle.cert_stream.specs.LratMachine.{LratOf, Turn, begins_id, counted, emptied, end_id_part, end_line, end_part, end_word, fails, feed_after, hint, id_digit, id_first, id_goes_on, id_part, lits_ended, most_hints, own_digit, quiet, read, turn, unended, visible, visible_after_id, visible_digit, visible_first, visible_part, visible_plain, visible_spelled, visible_start}
 use Rattle.cert_stream.specs.LratTelling.{after}
 use Rattle.cert_stream.specs.declared.mode.ParseFault.{ParseFault}
 use Rattle.cert_stream.specs.declared.mode.ParseFaultKind.{ParseFaultKind}
@@ -17,7 +17,7 @@ use Rattle.cert_stream.specs.declared.lrat.mode.IdList.TheVariants.{Deletion}
 use Rattle.cert_stream.specs.declared.lrat.mode.IdPart.{IdPart}
 use Rattle.cert_stream.specs.declared.lrat.mode.IdPart.TheVariants.{Gap as IdGap, Minus as IdMinus, Zero as IdZero, Digits as IdDigits}
 use Rattle.cert_stream.specs.declared.lrat.mode.Mode.{Mode}
-use Rattle.cert_stream.specs.declared.lrat.mode.Mode.TheVariants.{Start, Skip, ValuesHead, StatusHead, StatusGap, Spelled, Whole, InId, BehindId, DeletionHead, InLits, InIds, Closed, Bad}
+use Rattle.cert_stream.specs.declared.lrat.mode.Mode.TheVariants.{Start, Skip, ValuesHead, StatusHead, StatusGap, Spelled, Whole, InId, AfterId, DeletionHead, InLits, InIds, Closed, Bad}
 use Rattle.cert_stream.proofs.Going.{GoingPart, minus_room}
 use Rattle.cert_stream.proofs.LratTurning.{Kept, parser}
 
@@ -31,7 +31,7 @@ Going vars StatusGap = Unit {0}
 Going vars (Spelled k) = Unit {0}
 Going vars Whole = Unit {0}
 Going vars (InId k) = Unit {0}
-Going vars BehindId = Unit {0}
+Going vars AfterId = Unit {0}
 Going vars DeletionHead = Unit {0}
 Going vars (InLits kind part) = GoingPart vars part
 Going vars (InIds kind part) = Unit {0}
@@ -48,7 +48,7 @@ Next vars taken StatusGap = Unit {0}
 Next vars taken (Spelled k) = Unit {0}
 Next vars taken Whole = Unit {0}
 Next vars taken (InId k) = Unit {0}
-Next vars taken BehindId = Unit {0}
+Next vars taken AfterId = Unit {0}
 Next vars taken DeletionHead = Unit {0}
 Next vars taken (InLits kind part) = GoingPart vars part
 Next vars taken (InIds kind part) = Unit {0}
@@ -64,7 +64,7 @@ going_or_bad vars taken StatusGap n = inl tt
 going_or_bad vars taken (Spelled k) n = inl tt
 going_or_bad vars taken Whole n = inl tt
 going_or_bad vars taken (InId k) n = inl tt
-going_or_bad vars taken BehindId n = inl tt
+going_or_bad vars taken AfterId n = inl tt
 going_or_bad vars taken DeletionHead n = inl tt
 going_or_bad vars taken (InLits kind part) n = inl n
 going_or_bad vars taken (InIds kind part) n = inl tt
@@ -107,7 +107,7 @@ end_word_moves w StatusGap n = quiet_moves w StatusGap tt
 end_word_moves w (Spelled k) n = elim (cases_Bool (eqb k 7)) [ inl t ↦ rw t (quiet_moves w Whole tt) | inr f ↦ rw f (quiet_moves w (Skip false) tt) ]
 end_word_moves w Whole n = quiet_moves w Whole tt
 end_word_moves w (InId k) n = record { vars = refl; taken = refl; next = tt }
-end_word_moves w BehindId n = quiet_moves w BehindId tt
+end_word_moves w AfterId n = quiet_moves w AfterId tt
 end_word_moves w DeletionHead n = quiet_moves w (InIds Deletion IdGap) tt
 end_word_moves w (InLits kind part) n = end_part_moves w kind part
 end_word_moves w (InIds kind part) n = end_id_part_moves w kind part
@@ -127,15 +127,15 @@ end_line_moves w StatusGap n = quiet_moves w (Start false) tt
 end_line_moves w (Spelled k) n = quiet_moves w (Start false) tt
 end_line_moves w Whole n = record { vars = refl; taken = refl; next = tt }
 end_line_moves w (InId k) n = fails_moves w BadLine
-end_line_moves w BehindId n = fails_moves w BadLine
+end_line_moves w AfterId n = fails_moves w BadLine
 end_line_moves w DeletionHead n = fails_moves w BadLine
 end_line_moves w (InLits kind part) n = unended_moves w kind
 end_line_moves w (InIds kind part) n = fails_moves w BadLine
 end_line_moves w Closed n = quiet_moves w (Start false) tt
 end_line_moves w (Bad f) n = quiet_moves w (Bad f) n
 
-behind_moves : (w : LratOf) (t : Turn) → Moves w t → Moves w (feed_behind t)
-behind_moves w t h =
+after_moves : (w : LratOf) (t : Turn) → Moves w t → Moves w (feed_after t)
+after_moves w t h =
     let n : Next t.to.vars t.to.taken t.to.mode = subst (λ z. Next z t.to.taken t.to.mode) (sym h.vars) (subst (λ z. Next w.vars z t.to.mode) (sym h.taken) h.next) in
     let k = end_line_moves t.to t.to.mode n in
     record {
@@ -199,8 +199,8 @@ id_part_moves w kind (IdDigits h) b = id_digit_moves w kind h.negated h.place h.
 own_moves : (w : LratOf) (n b : ℕ) → Moves w (own_digit w n b)
 own_moves w n b = elim (cases_Bool (id_goes_on n b)) [ inl t ↦ rw t (quiet_moves w (InId (with_digit n b)) tt) | inr f ↦ rw f (fails_moves w BadLiteral) ]
 
-behind_id_moves : (w : LratOf) (b : ℕ) → Moves w (visible_behind w b)
-behind_id_moves w b = elim (cases_Bool (eqb b 100)) [ inl t ↦ rw t (quiet_moves w DeletionHead tt) | inr f ↦ rw f (first_moves w Clause b) ]
+after_id_moves : (w : LratOf) (b : ℕ) → Moves w (visible_after_id w b)
+after_id_moves w b = elim (cases_Bool (eqb b 100)) [ inl t ↦ rw t (quiet_moves w DeletionHead tt) | inr f ↦ rw f (first_moves w Clause b) ]
 
 plain_moves : (w : LratOf) (b : ℕ) → Moves w (visible_plain w b)
 plain_moves w b = elim (cases_Bool (eqb b 115)) [ inl t ↦ rw t (quiet_moves w StatusHead tt) | inr f ↦ rw f (other (is_digit b)) ]
@@ -236,7 +236,7 @@ visible_moves w StatusGap b n = spelled_moves w 0 b
 visible_moves w (Spelled k) b n = spelled_moves w k b
 visible_moves w Whole b n = quiet_moves w (Skip false) tt
 visible_moves w (InId k) b n = own_moves w k b
-visible_moves w BehindId b n = behind_id_moves w b
+visible_moves w AfterId b n = after_id_moves w b
 visible_moves w DeletionHead b n = fails_moves w BadLine
 visible_moves w (InLits kind part) b n = part_moves w kind part b
 visible_moves w (InIds kind part) b n = id_part_moves w kind part b
@@ -246,7 +246,7 @@ visible_moves w (Bad f) b n = absurd n
 read_moves : (w : LratOf) (b : ℕ) → Going w.vars w.mode → Moves w (read w b)
 read_moves w b n =
     elim (cases_Bool (eqb b 10)) [
-      | inl t ↦ rw t (behind_moves w (end_word w w.mode) (end_word_moves w w.mode n))
+      | inl t ↦ rw t (after_moves w (end_word w w.mode) (end_word_moves w w.mode n))
       | inr f ↦ rw f (elim (cases_Bool (is_blank b)) [ inl t ↦ rw t (end_word_moves w w.mode n) | inr g ↦ rw g (visible_moves w w.mode b n) ])
     ]
 
@@ -274,7 +274,7 @@ completes vars taken place (Spelled k) line n = record { more = 10 ∷ []; amid 
     spelled_fed false = refl
 completes vars taken place Whole line n = record { more = 10 ∷ []; amid = false; whole = refl }
 completes vars taken place (InId k) line n = record { more = 32 ∷ 48 ∷ 32 ∷ 48 ∷ 10 ∷ []; amid = false; whole = refl }
-completes vars taken place BehindId line n = record { more = 48 ∷ 32 ∷ 48 ∷ 10 ∷ []; amid = false; whole = refl }
+completes vars taken place AfterId line n = record { more = 48 ∷ 32 ∷ 48 ∷ 10 ∷ []; amid = false; whole = refl }
 completes vars taken place DeletionHead line n = record { more = 32 ∷ 48 ∷ 10 ∷ []; amid = false; whole = refl }
 completes vars taken place (InLits Clause Gap) line n = record { more = 48 ∷ 32 ∷ 48 ∷ 10 ∷ []; amid = false; whole = refl }
 completes vars taken place (InLits Values Gap) line n = record { more = 48 ∷ 10 ∷ []; amid = false; whole = refl }

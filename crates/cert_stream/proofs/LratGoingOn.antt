@@ -13,7 +13,7 @@ use Rattle.cert_stream.specs.declared.lrat.mode.IdList.{IdList}
 use Rattle.cert_stream.specs.declared.lrat.mode.IdList.TheVariants.{Hints, Deletion}
 use Rattle.cert_stream.specs.declared.lrat.mode.IdPart.TheVariants.{Gap as IdGap, Minus as IdMinus, Zero as IdZero, Digits as IdDigits}
 use Rattle.cert_stream.specs.declared.lrat.mode.Mode.{Mode}
-use Rattle.cert_stream.specs.declared.lrat.mode.Mode.TheVariants.{Start, Skip, ValuesHead, StatusHead, StatusGap, Spelled, Whole, InId, BehindId, DeletionHead, InLits, InIds, Closed, Bad}
+use Rattle.cert_stream.specs.declared.lrat.mode.Mode.TheVariants.{Start, Skip, ValuesHead, StatusHead, StatusGap, Spelled, Whole, InId, AfterId, DeletionHead, InLits, InIds, Closed, Bad}
 use Rattle.cert_stream.proofs.LratTurning.{Kept, kept, parser}
 use Rattle.cert_stream.proofs.LratSpeaking.{speak, speak_is, last_of, bad_ever}
 use Rattle.cert_stream.proofs.LratStreams.{stream_spoken}
@@ -29,7 +29,7 @@ module _ (ended : Bool) (vars taken place : ℕ) (line : Kept) (rest : List ℕ)
   last_goes_on (Spelled n) = subst (λ z. Starts z (speak ended (parser vars taken place (Spelled n) line) rest)) (sym (no_end (IsUnknown ∷ []) n)) (starts_none _)
   last_goes_on Whole = starts_none _
   last_goes_on (InId n) = starts_none _
-  last_goes_on BehindId = starts_none _
+  last_goes_on AfterId = starts_none _
   last_goes_on DeletionHead = starts_none _
   last_goes_on (InLits Clause part) = starts_none _
   last_goes_on (InLits Values Gap) = starts_none _
@@ -66,7 +66,7 @@ module _ (vars taken place : ℕ) (line : Kept) (rest : List ℕ) where
   last_fed (Spelled n) = spelled_feed n
   last_fed Whole = (speak false (parser vars (taken + 1) place (Start false) line) rest, refl)
   last_fed (InId n) = starts_none _
-  last_fed BehindId = starts_none _
+  last_fed AfterId = starts_none _
   last_fed DeletionHead = starts_none _
   last_fed (InLits Clause part) = starts_none _
   last_fed (InLits Values Gap) = starts_none _
@@ -107,7 +107,7 @@ module _ (vars taken place : ℕ) (line : Kept) (b : ℕ) (rest : List ℕ) (h :
   last_parted (Spelled n) = maybe_unknown IsUnknown (eqb n 7 && true) _
   last_parted Whole = maybe_unknown IsUnknown true _
   last_parted (InId n) = parted_same IsUnknown _ _ (starts_none _)
-  last_parted BehindId = parted_same IsUnknown _ _ (starts_none _)
+  last_parted AfterId = parted_same IsUnknown _ _ (starts_none _)
   last_parted DeletionHead = parted_same IsUnknown _ _ (starts_none _)
   last_parted (InLits Clause part) = parted_same IsUnknown _ _ (starts_none _)
   last_parted (InLits Values Gap) = parted_same IsUnknown _ _ (starts_none _)

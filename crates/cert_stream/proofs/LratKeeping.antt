@@ -7,7 +7,7 @@ use Rattle.cert_stream.specs.declared.mode.ParseFaultKind.TheVariants.{BadLitera
 use Rattle.cert_stream.specs.declared.mode.Part.{Part}
 use Rattle.cert_stream.specs.declared.mode.Part.TheVariants.{Gap, Minus, Zero, Digits}
 use Rattle.cert_stream.proofs.Keeping.{first_within}
-use Rattle.cert_stream.specs.LratMachine.{LratOf, Turn, IsModeWithin, begins_id, emptied, end_id_part, end_line, end_part, end_word, fails, feed_behind, hint, id_digit, id_first, id_goes_on, id_part, own_digit, quiet, read, unended, visible, visible_behind, visible_digit, visible_first, visible_part, visible_start, most_hints}
+use Rattle.cert_stream.specs.LratMachine.{LratOf, Turn, IsModeWithin, begins_id, emptied, end_id_part, end_line, end_part, end_word, fails, feed_after, hint, id_digit, id_first, id_goes_on, id_part, own_digit, quiet, read, unended, visible, visible_after_id, visible_digit, visible_first, visible_part, visible_start, most_hints}
 use Rattle.cert_stream.specs.declared.lrat.mode.LitList.{LitList}
 use Rattle.cert_stream.specs.declared.lrat.mode.LitList.TheVariants.{Clause, Values}
 use Rattle.cert_stream.specs.declared.lrat.mode.IdList.{IdList}
@@ -15,7 +15,7 @@ use Rattle.cert_stream.specs.declared.lrat.mode.IdList.TheVariants.{Hints, Delet
 use Rattle.cert_stream.specs.declared.lrat.mode.IdPart.{IdPart}
 use Rattle.cert_stream.specs.declared.lrat.mode.IdPart.TheVariants.{Gap as IdGap, Minus as IdMinus, Zero as IdZero, Digits as IdDigits}
 use Rattle.cert_stream.specs.declared.lrat.mode.Mode.{Mode}
-use Rattle.cert_stream.specs.declared.lrat.mode.Mode.TheVariants.{Start, Skip, ValuesHead, StatusHead, StatusGap, Spelled, Whole, InId, BehindId, DeletionHead, InLits, InIds, Closed, Bad}
+use Rattle.cert_stream.specs.declared.lrat.mode.Mode.TheVariants.{Start, Skip, ValuesHead, StatusHead, StatusGap, Spelled, Whole, InId, AfterId, DeletionHead, InLits, InIds, Closed, Bad}
 
 abbrev Keeps : LratOf → Turn → Type 0
 Keeps w t = (t.to.vars ≡ w.vars) × IsEventWithin w.vars t.event
@@ -48,7 +48,7 @@ end_word_keeps w StatusGap i = (refl, tt)
 end_word_keeps w (Spelled n) i = (refl, tt)
 end_word_keeps w Whole i = (refl, tt)
 end_word_keeps w (InId n) i = (refl, tt)
-end_word_keeps w BehindId i = (refl, tt)
+end_word_keeps w AfterId i = (refl, tt)
 end_word_keeps w DeletionHead i = (refl, tt)
 end_word_keeps w (InLits kind part) i = end_part_keeps w kind part i
 end_word_keeps w (InIds kind part) i = end_id_part_keeps w kind part
@@ -68,7 +68,7 @@ end_line_keeps w StatusGap = (refl, tt)
 end_line_keeps w (Spelled n) = (refl, tt)
 end_line_keeps w Whole = (refl, tt)
 end_line_keeps w (InId n) = (refl, tt)
-end_line_keeps w BehindId = (refl, tt)
+end_line_keeps w AfterId = (refl, tt)
 end_line_keeps w DeletionHead = (refl, tt)
 end_line_keeps w (InLits kind part) = unended_keeps w kind
 end_line_keeps w (InIds kind part) = (refl, tt)
@@ -104,8 +104,8 @@ id_part_keeps w kind (IdDigits h) b = id_digit_keeps w kind h.negated h.place h.
 own_keeps : (w : LratOf) (n b : ℕ) → Keeps w (own_digit w n b)
 own_keeps w n b = either w (id_goes_on n b) (quiet w (InId (with_digit n b))) (fails w BadLiteral) (refl, tt) (refl, tt)
 
-behind_id_keeps : (w : LratOf) (b : ℕ) → Keeps w (visible_behind w b)
-behind_id_keeps w b = either w (eqb b 100) _ _ (refl, tt) (first_keeps w Clause b)
+after_id_keeps : (w : LratOf) (b : ℕ) → Keeps w (visible_after_id w b)
+after_id_keeps w b = either w (eqb b 100) _ _ (refl, tt) (first_keeps w Clause b)
 
 start_keeps : (w : LratOf) (amid : Bool) (b : ℕ) → Keeps w (visible_start w amid b)
 start_keeps w amid b =
@@ -121,7 +121,7 @@ visible_keeps w StatusGap b = (refl, tt)
 visible_keeps w (Spelled n) b = (refl, tt)
 visible_keeps w Whole b = (refl, tt)
 visible_keeps w (InId n) b = own_keeps w n b
-visible_keeps w BehindId b = behind_id_keeps w b
+visible_keeps w AfterId b = after_id_keeps w b
 visible_keeps w DeletionHead b = (refl, tt)
 visible_keeps w (InLits kind part) b = part_keeps w kind part b
 visible_keeps w (InIds kind part) b = id_part_keeps w kind part b
@@ -129,8 +129,8 @@ visible_keeps w Closed b = (refl, tt)
 visible_keeps w (Bad f) b = (refl, tt)
 
 -- of both, what was said first
-behind_keeps : (w : LratOf) (t : Turn) → Keeps w t → Keeps w (feed_behind t)
-behind_keeps w t h =
+after_keeps : (w : LratOf) (t : Turn) → Keeps w t → Keeps w (feed_after t)
+after_keeps w t h =
     let k = end_line_keeps t.to t.to.mode in
     (k.0 ∙ h.0, first_within w.vars t.event (end_line t.to t.to.mode).event h.1 (subst (λ n. IsEventWithin n (end_line t.to t.to.mode).event) h.0 k.1))
 
@@ -138,7 +138,7 @@ read_keeps : (w : LratOf) (b : ℕ) → IsModeWithin w.vars w.mode → Keeps w (
 read_keeps w b i =
     let t : Turn = end_word w w.mode in
     let h : Keeps w t = end_word_keeps w w.mode i in
-    either w (eqb b 10) (feed_behind t) (cond (is_blank b) t (visible w w.mode b)) (behind_keeps w t h) (either w (is_blank b) t (visible w w.mode b) h (visible_keeps w w.mode b))
+    either w (eqb b 10) (feed_after t) (cond (is_blank b) t (visible w w.mode b)) (after_keeps w t h) (either w (is_blank b) t (visible w w.mode b) h (visible_keeps w w.mode b))
 
 pub read_said : (w v : LratOf) (b : ℕ) (event : Option Event) → IsModeWithin w.vars w.mode → (let t : Turn = record { to = v; event = event } in t) ≡ read w b
     → (v.vars ≡ w.vars) × IsEventWithin w.vars event

@@ -11,7 +11,7 @@ use Rattle.cert_stream.specs.LratMachine.{Turn, counted as with_count, end_id_pa
 use Rattle.cert_stream.specs.LratTelling.{LratSaying, told_by}
 use Rattle.cert_stream.specs.Scan.{Scanned, Reads, Misfit, scan_by}
 use Rattle.cert_stream.specs.LratScan.{part_next}
-use Rattle.cert_stream.specs.LratLines.{bad, behind_says, ids_ended, ids_say}
+use Rattle.cert_stream.specs.LratLines.{bad, after_says, ids_ended, ids_say}
 use Rattle.cert_stream.specs.declared.lrat.mode.Hint.{Hint}
 use Rattle.cert_stream.specs.declared.lrat.mode.IdList.{IdList}
 use Rattle.cert_stream.specs.declared.lrat.mode.IdList.TheVariants.{Hints, Deletion}
@@ -27,7 +27,7 @@ use Rattle.cert_stream.proofs.LratTails.{Tail, id_word_says}
 module _ (vars : ℕ) (ended fed counted : Bool) (broken going more : List LratSaying) (feed : ℕ) (tail : List ℕ) (behind : Tail vars ended fed counted broken going more feed tail) where
   -- after the last 0
   pub closed_text : (place : ℕ) (t : List ℕ) (taken : ℕ) (line : Kept) → NoFeed t → taken + length t ≡ feed
-      → speak ended (parser vars taken place Closed line) (t ++ tail) ≡ behind_says more (words_from fed taken [] t)
+      → speak ended (parser vars taken place Closed line) (t ++ tail) ≡ after_says more (words_from fed taken [] t)
   closed_text place [] taken line h e =
       let k : taken ≡ feed = omega (arith, e) in
       ap (λ z. speak ended (parser vars z place Closed line) tail) k ∙ behind.closed place line
@@ -37,7 +37,7 @@ module _ (vars : ℕ) (ended fed counted : Bool) (broken going more : List LratS
         | inr g ↦
             let w = has_word fed (taken + 1) b [] bs in
             let at : w.word.place ≡ taken = w.place ∙ omega arith in
-            rw (h, g) (bad_ever ended (record { kind = BadLine; byte = taken }) vars (taken + 1) place line (bs ++ tail) ∙ ap (bad BadLine) (sym at) ∙ ap (behind_says more) (sym w.are))
+            rw (h, g) (bad_ever ended (record { kind = BadLine; byte = taken }) vars (taken + 1) place line (bs ++ tail) ∙ ap (bad BadLine) (sym at) ∙ ap (after_says more) (sym w.are))
       ]
 
   module _ (kind : IdList) (place id : ℕ) (lits : List LitOf) where
@@ -83,7 +83,7 @@ module _ (vars : ℕ) (ended fed counted : Bool) (broken going more : List LratS
       blank_says Zero = zero_says kind
         where
           zero_says : (k : IdList) → told_by (parser vars (taken + 1) place Closed (kept id lits hints)) (Some (event_ended k)) ++ speak ended (parser vars (taken + 1) place Closed (kept id lits hints)) (bs ++ tail)
-              ≡ ids_ended k place id lits hints ∷ behind_says more (words_from fed (taken + 1) [] bs)
+              ≡ ids_ended k place id lits hints ∷ after_says more (words_from fed (taken + 1) [] bs)
           zero_says Hints = ap (λ z. ids_ended Hints place id lits hints ∷ z) (closed_text place bs (taken + 1) (kept id lits hints) hs m)
           zero_says Deletion = ap (λ z. ids_ended Deletion place id lits hints ∷ z) (closed_text place bs (taken + 1) (kept id lits hints) hs m)
       blank_says (Digits h) = again (taken + 1) (hints ++ h ∷ []) Gap [] refl tt (omega arith) m

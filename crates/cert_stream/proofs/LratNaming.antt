@@ -17,7 +17,7 @@ use Rattle.cert_stream.specs.LratLines.{bad, hinted_says, ids_say, lits_say, nam
 use Rattle.cert_stream.specs.declared.lrat.mode.LitList.TheVariants.{Clause}
 use Rattle.cert_stream.specs.declared.lrat.mode.IdList.TheVariants.{Deletion}
 use Rattle.cert_stream.specs.declared.lrat.mode.IdPart.TheVariants.{Gap as IdGap}
-use Rattle.cert_stream.specs.declared.lrat.mode.Mode.TheVariants.{InId, BehindId, DeletionHead, InLits}
+use Rattle.cert_stream.specs.declared.lrat.mode.Mode.TheVariants.{InId, AfterId, DeletionHead, InLits}
 use Rattle.cert_stream.proofs.LratTurning.{kept, nothing, parser, turn_blank, turn_visible, by_lit, by_own, first_is, own_is}
 use Rattle.cert_stream.proofs.Scanning.{scan_more, scan_bad}
 use Rattle.cert_stream.proofs.LratWording.{after_first, alone_says, first_alone}
@@ -48,9 +48,9 @@ module _ (vars : ℕ) (ended fed counted : Bool) (broken going more : List LratS
 
   -- the literals of a clause, from their first byte on
   literals_text : (id taken b : ℕ) (bs : List ℕ) → eqb b 10 ≡ false → NoFeed bs → is_blank b ≡ false → eqb b 100 ≡ false → taken + 1 + length bs ≡ feed
-      → speak ended (parser vars taken place BehindId (kept id [] [])) (b ∷ bs ++ tail) ≡ listed id (words_from fed taken [] (b ∷ bs))
+      → speak ended (parser vars taken place AfterId (kept id [] [])) (b ∷ bs ++ tail) ≡ listed id (words_from fed taken [] (b ∷ bs))
   literals_text id taken b bs h hs g nd k =
-      let w = parser vars taken place BehindId (kept id [] []) in
+      let w = parser vars taken place AfterId (kept id [] []) in
       let v = parser vars taken place (InLits Clause Gap) (kept id [] []) in
       let e : turn w b ≡ with_count taken (visible_first w Clause b) = rw (h, g, nd) refl in
       let f : turn v b ≡ with_count taken (visible_first v Clause b) = rw (h, g) refl in
@@ -59,18 +59,18 @@ module _ (vars : ℕ) (ended fed counted : Bool) (broken going more : List LratS
       ∙ lits_text vars ended fed counted broken going more feed tail behind Clause place id (b ∷ bs) (h, hs) taken [] Gap [] refl (omega arith) (omega (arith, k))
       ∙ going_unheard vars counted broken going [] more place id [] (words_from fed taken [] (b ∷ bs))
     where
-      same : (next : Result Part ParseFaultKind) → by_lit (parser vars taken place BehindId (kept id [] [])) Clause next ≡ by_lit (parser vars taken place (InLits Clause Gap) (kept id [] [])) Clause next
+      same : (next : Result Part ParseFaultKind) → by_lit (parser vars taken place AfterId (kept id [] [])) Clause next ≡ by_lit (parser vars taken place (InLits Clause Gap) (kept id [] [])) Clause next
       same (Ok part) = refl
       same (Err x) = refl
 
   -- after the line's own id and white space
-  behind_text : (id : ℕ) (t : List ℕ) (taken : ℕ) → NoFeed t → taken + length t ≡ feed
-      → speak ended (parser vars taken place BehindId (kept id [] [])) (t ++ tail) ≡ named_says vars counted broken more place id (words_from fed taken [] t)
-  behind_text id [] taken h e = let k : taken ≡ feed = omega (arith, e) in ap (λ z. speak ended (parser vars z place BehindId (kept id [] [])) tail) k ∙ behind.behind_id place (kept id [] [])
-  behind_text id (b ∷ bs) taken (h, hs) e =
+  after_text : (id : ℕ) (t : List ℕ) (taken : ℕ) → NoFeed t → taken + length t ≡ feed
+      → speak ended (parser vars taken place AfterId (kept id [] [])) (t ++ tail) ≡ named_says vars counted broken more place id (words_from fed taken [] t)
+  after_text id [] taken h e = let k : taken ≡ feed = omega (arith, e) in ap (λ z. speak ended (parser vars z place AfterId (kept id [] [])) tail) k ∙ behind.after_id place (kept id [] [])
+  after_text id (b ∷ bs) taken (h, hs) e =
       let k : taken + 1 + length bs ≡ feed = omega (arith, e) in
       elim (cases_Bool (is_blank b)) [
-        | inl t ↦ rw (h, t) (behind_text id bs (taken + 1) hs k)
+        | inl t ↦ rw (h, t) (after_text id bs (taken + 1) hs k)
         | inr g ↦
             let w = has_word fed (taken + 1) b [] bs in
             let are : words_from fed taken [] (b ∷ bs) ≡ w.word ∷ w.others = words_visible fed taken [] b bs g ∙ w.are in
@@ -81,7 +81,7 @@ module _ (vars : ℕ) (ended fed counted : Bool) (broken going more : List LratS
     where
       visible_text : (b : ℕ) (bs : List ℕ) → eqb b 10 ≡ false → NoFeed bs → is_blank b ≡ false → taken + 1 + length bs ≡ feed → (word : Word) (others : List Word)
           → words_from fed taken [] (b ∷ bs) ≡ word ∷ others
-          → speak ended (parser vars taken place BehindId (kept id [] [])) (b ∷ bs ++ tail) ≡ named_by vars counted broken more place id b word others
+          → speak ended (parser vars taken place AfterId (kept id [] [])) (b ∷ bs ++ tail) ≡ named_by vars counted broken more place id b word others
       visible_text b bs h hs g k word others are =
           elim (cases_Bool (eqb b 100)) [
             | inl t ↦ rw (h, g, t) (deletion_text id bs (taken + 1) hs k ∙ sym (alone_says (deleted id) fed taken b bs) ∙ ap (first_alone (deleted id)) (sym (words_visible fed taken [] b bs g) ∙ are))
@@ -139,7 +139,7 @@ module _ (vars : ℕ) (ended fed counted : Bool) (broken going more : List LratS
       elim (cases_Bool (is_blank b)) [
         | inl t ↦
             ap (λ (z : Turn). told_by z.to z.event ++ speak ended z.to (bs ++ tail)) (turn_blank w b h t)
-            ∙ behind_text n bs (taken + 1) hs m'
+            ∙ after_text n bs (taken + 1) hs m'
             ∙ ap (λ z. named_says vars counted broken more z n (words_from fed (taken + 1) [] bs)) p
             ∙ sym (ap on_words (words_blank fed taken (c ∷ q) b bs t)
             ∙ says_word (Reads n) (record { place = taken - length (c ∷ q); text = c ∷ q; done = true }) (words_from fed (taken + 1) [] bs) e)

@@ -7,7 +7,7 @@ use Rattle.cert_stream.specs.LratMachine.{LratOf, Turn, turn, is_in_number}
 use Rattle.cert_stream.specs.LratTelling.{TakesMemory}
 use Rattle.cert_stream.specs.declared.mode.Event.{Event}
 use Rattle.cert_stream.specs.declared.lrat.mode.Mode.{Mode}
-use Rattle.cert_stream.specs.declared.lrat.mode.Mode.TheVariants.{Start, Skip, ValuesHead, StatusHead, StatusGap, Spelled, Whole, InId, BehindId, DeletionHead, InLits, InIds, Closed, Bad}
+use Rattle.cert_stream.specs.declared.lrat.mode.Mode.TheVariants.{Start, Skip, ValuesHead, StatusHead, StatusGap, Spelled, Whole, InId, AfterId, DeletionHead, InLits, InIds, Closed, Bad}
 use Rattle.cert_stream.proofs.LratTurning.{Kept, kept, parser}
 use Rattle.cert_stream.proofs.GoingOn.{blank_no_feed}
 
@@ -21,7 +21,7 @@ Still StatusGap = Unit {0}
 Still (Spelled n) = Unit {0}
 Still Whole = Unit {0}
 Still (InId n) = ⊥
-Still BehindId = ⊥
+Still AfterId = ⊥
 Still DeletionHead = ⊥
 Still (InLits kind part) = ⊥
 Still (InIds kind part) = ⊥
@@ -51,7 +51,7 @@ module _ (vars taken place : ℕ) (line : Kept) (b : ℕ) (h : eqb b 10 ≡ fals
   still_turn (Spelled n) s = by_blank (Spelled n) (λ t. rw (h, t) (still_either (eqb n 7) Whole (Skip false) tt tt, refl)) (λ f. rw (h, f) (spelled_stays n, refl))
   still_turn Whole s = by_blank Whole (λ t. rw (h, t) (tt, refl)) (λ f. rw (h, f) (tt, refl))
   still_turn (InId n) s = absurd s
-  still_turn BehindId s = absurd s
+  still_turn AfterId s = absurd s
   still_turn DeletionHead s = absurd s
   still_turn (InLits kind part) s = absurd s
   still_turn (InIds kind part) s = absurd s
@@ -67,7 +67,7 @@ not_in_number StatusGap s e = cc
 not_in_number (Spelled n) s e = cc
 not_in_number Whole s e = cc
 not_in_number (InId n) s e = s
-not_in_number BehindId s e = s
+not_in_number AfterId s e = s
 not_in_number DeletionHead s e = s
 not_in_number (InLits kind part) s e = s
 not_in_number (InIds kind part) s e = s

@@ -15,7 +15,7 @@ use Rattle.cert_stream.specs.declared.lrat.mode.IdList.TheVariants.{Hints, Delet
 use Rattle.cert_stream.specs.declared.lrat.mode.IdPart.{IdPart}
 use Rattle.cert_stream.specs.declared.lrat.mode.IdPart.TheVariants.{Gap as IdGap, Minus as IdMinus, Zero as IdZero, Digits as IdDigits}
 use Rattle.cert_stream.specs.declared.lrat.mode.Mode.{Mode}
-use Rattle.cert_stream.specs.declared.lrat.mode.Mode.TheVariants.{Start, Skip, ValuesHead, StatusHead, StatusGap, Spelled, Whole, InId, BehindId, DeletionHead, InLits, InIds, Closed, Bad}
+use Rattle.cert_stream.specs.declared.lrat.mode.Mode.TheVariants.{Start, Skip, ValuesHead, StatusHead, StatusGap, Spelled, Whole, InId, AfterId, DeletionHead, InLits, InIds, Closed, Bad}
 use Rattle.cert_stream.proofs.LratTurning.{Kept, kept, nothing, parser}
 
 -- what is said at the end, mode by mode
@@ -41,7 +41,7 @@ last_of ended place line StatusGap = []
 last_of ended place line (Spelled n) = cond (eqb n 7 && ended) (IsUnknown ∷ []) []
 last_of ended place line Whole = cond ended (IsUnknown ∷ []) []
 last_of ended place line (InId n) = []
-last_of ended place line BehindId = []
+last_of ended place line AfterId = []
 last_of ended place line DeletionHead = []
 last_of ended place line (InLits kind part) = last_lits ended kind part
 last_of ended place line (InIds kind part) = last_ids ended place line kind part
@@ -62,7 +62,7 @@ last_is true vars taken place line StatusGap = refl
 last_is true vars taken place line (Spelled n) = elim (cases_Bool (eqb n 7)) [ inl t ↦ rw t refl | inr f ↦ rw f refl ]
 last_is true vars taken place line Whole = refl
 last_is true vars taken place line (InId n) = refl
-last_is true vars taken place line BehindId = refl
+last_is true vars taken place line AfterId = refl
 last_is true vars taken place line DeletionHead = refl
 last_is true vars taken place line (InLits Clause part) = refl
 last_is true vars taken place line (InLits Values Gap) = refl
@@ -84,7 +84,7 @@ last_is false vars taken place line StatusGap = refl
 last_is false vars taken place line (Spelled n) = elim (cases_Bool (eqb n 7)) [ inl t ↦ rw t refl | inr f ↦ rw f refl ]
 last_is false vars taken place line Whole = refl
 last_is false vars taken place line (InId n) = refl
-last_is false vars taken place line BehindId = refl
+last_is false vars taken place line AfterId = refl
 last_is false vars taken place line DeletionHead = refl
 last_is false vars taken place line (InLits Clause part) = refl
 last_is false vars taken place line (InLits Values Gap) = refl

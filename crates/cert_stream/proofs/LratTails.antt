@@ -8,7 +8,7 @@ use Rattle.cert_stream.specs.declared.mode.ParseFaultKind.TheVariants.{BadLine, 
 use Rattle.cert_stream.specs.declared.mode.Part.{Part}
 use Rattle.cert_stream.specs.declared.mode.Part.TheVariants.{Gap, Minus, Zero, Digits}
 use Rattle.cert_stream.specs.LratTelling.{LratSaying, IsValuesEnd, IsUnknown}
-use Rattle.cert_stream.specs.LratLines.{bad, behind_says, heard_says, ids_ended, ids_say, lits_ended, lits_say}
+use Rattle.cert_stream.specs.LratLines.{bad, after_says, heard_says, ids_ended, ids_say, lits_ended, lits_say}
 use Rattle.cert_stream.specs.declared.lrat.mode.Hint.{Hint}
 use Rattle.cert_stream.specs.declared.lrat.mode.LitList.{LitList}
 use Rattle.cert_stream.specs.declared.lrat.mode.LitList.TheVariants.{Clause, Values}
@@ -16,7 +16,7 @@ use Rattle.cert_stream.specs.declared.lrat.mode.IdList.{IdList}
 use Rattle.cert_stream.specs.declared.lrat.mode.IdList.TheVariants.{Hints, Deletion}
 use Rattle.cert_stream.specs.declared.lrat.mode.IdPart.{IdPart}
 use Rattle.cert_stream.specs.declared.lrat.mode.IdPart.TheVariants.{Gap as IdGap, Minus as IdMinus, Zero as IdZero, Digits as IdDigits}
-use Rattle.cert_stream.specs.declared.lrat.mode.Mode.TheVariants.{Start, Skip, ValuesHead, StatusHead, StatusGap, Spelled, Whole, InId, BehindId, DeletionHead, InLits, InIds, Closed}
+use Rattle.cert_stream.specs.declared.lrat.mode.Mode.TheVariants.{Start, Skip, ValuesHead, StatusHead, StatusGap, Spelled, Whole, InId, AfterId, DeletionHead, InLits, InIds, Closed}
 use Rattle.cert_stream.proofs.LratTurning.{Kept, kept, parser}
 use Rattle.cert_stream.proofs.LratSpeaking.{speak, bad_ever, from_line, start_forgets}
 
@@ -40,7 +40,7 @@ id_word_says kind counted broken more place id lits hints s w ws =
       | Reads part ↦ elim part [
         | IdGap ↦ ids_say kind counted broken more place id lits hints ws
         | IdMinus at ↦ cond w.done (bad BadLiteral (w.place + length w.text)) []
-        | IdZero ↦ cond (w.done || counted) (ids_ended kind place id lits hints ∷ behind_says more ws) []
+        | IdZero ↦ cond (w.done || counted) (ids_ended kind place id lits hints ∷ after_says more ws) []
         | IdDigits h ↦ cond w.done (ids_say kind counted broken more place id lits (hints ++ h ∷ []) ws) []
       ]
     ]
@@ -54,7 +54,7 @@ pub record Tail (vars : ℕ) (ended fed counted : Bool) (broken going more : Lis
   pub spelled : (place n : ℕ) (line : Kept) → speak ended (parser vars feed place (Spelled n) line) tail ≡ cond (eqb n 7 && counted) (IsUnknown ∷ more) more
   pub whole : (place : ℕ) (line : Kept) → speak ended (parser vars feed place Whole line) tail ≡ cond counted (IsUnknown ∷ more) more
   pub in_id : (place n : ℕ) (line : Kept) → speak ended (parser vars feed place (InId n) line) tail ≡ cond fed broken []
-  pub behind_id : (place : ℕ) (line : Kept) → speak ended (parser vars feed place BehindId line) tail ≡ broken
+  pub after_id : (place : ℕ) (line : Kept) → speak ended (parser vars feed place AfterId line) tail ≡ broken
   pub deletion_head : (place : ℕ) (line : Kept) → speak ended (parser vars feed place DeletionHead line) tail ≡ broken
   pub literals : (place : ℕ) (kind : LitList) (id : ℕ) (lits : List LitOf) (part : Part) (p : List ℕ) → length p ≤ feed → speak ended (parser vars feed place (InLits kind part) (kept id lits [])) tail
       ≡ lit_word_says vars kind counted broken going more place id lits (Reads part) (record { place = feed - length p; text = p; done = fed }) []
@@ -118,7 +118,7 @@ module _ (vars : ℕ) (ended : Bool) (feed : ℕ) (rest : List ℕ) where
     spelled = spelled_fed;
     whole = λ place line. ap (λ z. IsUnknown ∷ z) (start_forgets ended vars (feed + 1) place false line rest);
     in_id = λ place n line. bad_ever ended (record { kind = BadLine; byte = feed }) vars (feed + 1) place (kept n line.lits line.hints) rest;
-    behind_id = λ place line. bad_ever ended (record { kind = BadLine; byte = feed }) vars (feed + 1) place line rest;
+    after_id = λ place line. bad_ever ended (record { kind = BadLine; byte = feed }) vars (feed + 1) place line rest;
     deletion_head = λ place line. bad_ever ended (record { kind = BadLine; byte = feed }) vars (feed + 1) place line rest;
     literals = literals_fed;
     ids = ids_fed;
@@ -159,7 +159,7 @@ module _ (vars : ℕ) (ended : Bool) (feed : ℕ) where
     spelled = λ place n line. refl;
     whole = λ place line. refl;
     in_id = λ place n line. refl;
-    behind_id = λ place line. refl;
+    after_id = λ place line. refl;
     deletion_head = λ place line. refl;
     literals = literals_last;
     ids = ids_last;

@@ -10,10 +10,10 @@ use Rattle.cert_stream.specs.Text.{Word, NoFeed, is_blank, is_digit, literal_of,
 use Rattle.cert_stream.specs.Scan.{Scanned, Reads, Misfit, scan}
 use Rattle.cert_stream.specs.Words.{IsRead}
 use Rattle.cert_stream.specs.Telling.{Saying, IsValue, IsUnknown, IsFault, after, fresh}
-use Rattle.cert_stream.specs.Stream.{bad, ended_says, heard_says, behind_says, unended_says, list_says, is_unknown, status_says, alone, plain_says, visible_says, line_says, lines_say, sayings}
+use Rattle.cert_stream.specs.Stream.{bad, ended_says, heard_says, after_says, unended_says, list_says, is_unknown, status_says, alone, plain_says, visible_says, line_says, lines_say, sayings}
 use Rattle.cert_stream.specs.Beginning.{HasFault, HasNoFault}
 use Rattle.cert_stream.specs.Places.{AreLines, AreDone, Write}
-use Rattle.cert_stream.specs.Reasons.{IsAt, starts_line, is_alone, IsListOf, Reason, OtherLine, NotAlone, BehindZero, NoZero, BadWord, MinusAlone, HasReason}
+use Rattle.cert_stream.specs.Reasons.{IsAt, starts_line, is_alone, IsListOf, Reason, OtherLine, NotAlone, AfterZero, NoZero, BadWord, MinusAlone, HasReason}
 use Rattle.cert_stream.specs.declared.mode.ListKind.{ListKind}
 use Rattle.cert_stream.specs.declared.mode.ListKind.TheVariants.{Clause, Deletion, Values}
 use Rattle.cert_stream.specs.declared.mode.ParseFault.{ParseFault}
@@ -39,8 +39,8 @@ one_fault k n f h =
     let i : g ≡ f = cc in
     (sym (ap (λ (z : ParseFault). z.kind) i), sym (ap (λ (z : ParseFault). z.byte) i))
 
-behind_one : (s : Saying) (ss : List Saying) (f : ParseFault) → (s ≡ IsFault f → ⊥) → HasFault (s ∷ ss) f → HasFault ss f
-behind_one s ss f n h = elim (Contains-cases s (IsFault f) ss h) [ inl e ↦ absurd (n e) | inr k ↦ k ]
+after_one : (s : Saying) (ss : List Saying) (f : ParseFault) → (s ≡ IsFault f → ⊥) → HasFault (s ∷ ss) f → HasFault ss f
+after_one s ss f n h = elim (Contains-cases s (IsFault f) ss h) [ inl e ↦ absurd (n e) | inr k ↦ k ]
 
 none_fault : (f : ParseFault) → HasFault [] f → ⊥
 none_fault f h = Contains-empty (IsFault f) h
@@ -54,10 +54,10 @@ ended_none f Clause place lits e = cc
 ended_none f Deletion place lits e = cc
 ended_none f Values place lits e = cc
 
-behind_heard : (f : ParseFault) (kind : ListKind) (l : LitOf) (ss : List Saying) → HasFault (heard_says kind l ++ ss) f → HasFault ss f
-behind_heard f Clause l ss h = h
-behind_heard f Deletion l ss h = h
-behind_heard f Values l ss h = behind_one (IsValue l) ss f (λ e. cc) h
+after_heard : (f : ParseFault) (kind : ListKind) (l : LitOf) (ss : List Saying) → HasFault (heard_says kind l ++ ss) f → HasFault ss f
+after_heard f Clause l ss h = h
+after_heard f Deletion l ss h = h
+after_heard f Values l ss h = after_one (IsValue l) ss f (λ e. cc) h
 
 -- words have bytes
 abbrev HasText : List Word → Type 0
@@ -103,17 +103,17 @@ module _ (vars : ℕ) (amid fed : Bool) (feed : ℕ) (words : List Word) (f : Pa
           | inr k ↦ absurd (none_fault f k.1)
         ]
     word_reason ws lits w rest wr il t again (Reads Zero) r h =
-        elim (split f (w.done || counted) (ended_says kind place lits ∷ behind_says more rest) [] h) [
-          | inl k ↦ later rest il (behind_one (ended_says kind place lits) (behind_says more rest) f (ended_none f kind place lits) k.1)
+        elim (split f (w.done || counted) (ended_says kind place lits ∷ after_says more rest) [] h) [
+          | inl k ↦ later rest il (after_one (ended_says kind place lits) (after_says more rest) f (ended_none f kind place lits) k.1)
           | inr k ↦ absurd (none_fault f k.1)
         ]
       where
-        later : (rest : List Word) → IsListOf kind words (ws ++ w ∷ rest) → HasFault (behind_says more rest) f → Outcome
+        later : (rest : List Word) → IsListOf kind words (ws ++ w ∷ rest) → HasFault (after_says more rest) f → Outcome
         later [] il h = inr (inr h)
-        later (v ∷ vs) il h = inl (BehindZero kind ws lits w v vs il wr r (one_fault BadLine v.place f h))
+        later (v ∷ vs) il h = inl (AfterZero kind ws lits w v vs il wr r (one_fault BadLine v.place f h))
     word_reason ws lits w rest wr il t again (Reads (Digits l)) (n, r) h =
         elim (split f w.done (heard_says kind l ++ list_says vars kind counted unended more place (lits ++ l ∷ []) rest) [] h) [
-          | inl k ↦ again l (write_push vars ws lits w l wr k.0 r n) (behind_heard f kind l (list_says vars kind counted unended more place (lits ++ l ∷ []) rest) k.1)
+          | inl k ↦ again l (write_push vars ws lits w l wr k.0 r n) (after_heard f kind l (list_says vars kind counted unended more place (lits ++ l ∷ []) rest) k.1)
           | inr k ↦ absurd (none_fault f k.1)
         ]
 
@@ -174,7 +174,7 @@ module _ (vars : ℕ) (amid fed : Bool) (feed : ℕ) (words : List Word) (f : Pa
   behind kind place ws t il h = listed kind place (list_reason vars amid fed feed words f kind counted (unended_says kind broken going) more place ws [] [] t empty il h)
 
   status : (ws : List Word) → HasFault (status_says counted more ws) f → HasFault more f
-  status ws h = elim (split f (is_unknown ws && counted) (IsUnknown ∷ more) more h) [ inl k ↦ behind_one IsUnknown more f (λ e. cc) k.1 | inr k ↦ k.1 ]
+  status ws h = elim (split f (is_unknown ws && counted) (IsUnknown ∷ more) more h) [ inl k ↦ after_one IsUnknown more f (λ e. cc) k.1 | inr k ↦ k.1 ]
 
   module _ (w : Word) (ws : List Word) (e : words ≡ w ∷ ws) (ts : HasText (w ∷ ws)) where
     abbrev b : ℕ

@@ -5,7 +5,7 @@ use Rattle.cnf_form.specs.Cnf.{LitOf}
 use Rattle.cert_stream.specs.Text.{Word}
 use Rattle.cert_stream.specs.Scan.{Scanned, Reads, Misfit}
 use Rattle.cert_stream.specs.Telling.{Saying, IsUnknown}
-use Rattle.cert_stream.specs.Stream.{bad, ended_says, heard_says, unended_says, behind_says, list_says}
+use Rattle.cert_stream.specs.Stream.{bad, ended_says, heard_says, unended_says, after_says, list_says}
 use Rattle.cert_stream.specs.declared.mode.ListKind.{ListKind}
 use Rattle.cert_stream.specs.declared.mode.ListKind.TheVariants.{Clause, Deletion, Values}
 use Rattle.cert_stream.specs.declared.mode.ParseFaultKind.TheVariants.{BadLine, BadLiteral}
@@ -23,7 +23,7 @@ word_says vars kind counted unended more place lits s w ws =
       | Reads part ↦ elim part [
         | Gap ↦ list_says vars kind counted unended more place lits ws
         | Minus ↦ cond w.done (bad BadLiteral (w.place + length w.text)) []
-        | Zero ↦ cond (w.done || counted) (ended_says kind place lits ∷ behind_says more ws) []
+        | Zero ↦ cond (w.done || counted) (ended_says kind place lits ∷ after_says more ws) []
         | Digits l ↦ cond w.done (heard_says kind l ++ list_says vars kind counted unended more place (lits ++ l ∷ []) ws) []
       ]
     ]

@@ -1,11 +1,11 @@
 -- What one byte does, by what it is.
-use Rattle.std.proofs.Common.{◌≡◌, ℕ, Bool, true, false, eqb, leb, List, [], ◌∷◌, length, Some, Result, Ok, Err, refl, inl, inr}
-use Rattle.std.proofs.lemmas.Bool.{cases_Bool}
+use Rattle.std.proofs.Common.{◌≡◌, ℕ, true, false, eqb, leb, List, [], ◌∷◌, length, Some, Result, refl}
 use Rattle.cnf_form.specs.Cnf.{LitOf}
 use Rattle.cert_stream.specs.Text.{is_blank}
-use Rattle.cert_stream.specs.Machine.{DrupOf, Turn, turn, counted, ended, heard, end_word, visible, visible_part, visible_first, visible_digit, quiet, fails, begins_literal, goes_on}
+use Rattle.cert_stream.specs.Machine.{DrupOf, Turn, turn, counted, ended, heard, end_word, visible, visible_part, visible_first, quiet, fails}
+use Rattle.cert_stream.proofs.Choosing.{by_part, literal_digit, literal_first}
 use Rattle.cert_stream.specs.Telling.{told_by}
-use Rattle.cert_stream.specs.Scan.{digit_next, first_next, part_next}
+use Rattle.cert_stream.specs.Scan.{first_next, part_next}
 use Rattle.cert_stream.specs.Stream.{ended_says, heard_says}
 use Rattle.cert_stream.specs.declared.mode.ListKind.{ListKind}
 use Rattle.cert_stream.specs.declared.mode.ListKind.TheVariants.{Clause, Deletion, Values}
@@ -27,30 +27,16 @@ turn_visible w b f t = rw (f, t) refl
 
 -- how a list goes on after a part of a word
 abbrev pub by_next : DrupOf → ListKind → Result Part ParseFaultKind → Turn
-by_next w kind (Ok part) = quiet w (InList kind part)
-by_next w kind (Err k) = fails w k
-
-digit_is : (w : DrupOf) (kind : ListKind) (negated : Bool) (n b : ℕ) → visible_digit w kind negated n b ≡ by_next w kind (digit_next w.vars negated n b)
-digit_is w kind negated n b = elim (cases_Bool (goes_on w.vars n b)) [ inl t ↦ rw t refl | inr f ↦ rw f refl ]
+by_next w kind next = by_part (λ part. quiet w (InList kind part)) (fails w) next
 
 pub first_is : (w : DrupOf) (kind : ListKind) (b : ℕ) → visible_first w kind b ≡ by_next w kind (first_next w.vars (leb w.vars (length w.lits)) b)
-first_is w kind b =
-    elim (cases_Bool (eqb b 48)) [
-      | inl t ↦ rw t refl
-      | inr f ↦ rw f (elim (cases_Bool (begins_literal w.vars b)) [
-        | inr g ↦ rw g refl
-        | inl g ↦ rw g (elim (cases_Bool (leb w.vars (length w.lits))) [
-          | inl t ↦ rw t refl
-          | inr h ↦ rw h (elim (cases_Bool (eqb b 45)) [ inl t ↦ rw t refl | inr i ↦ rw i (digit_is w kind false 0 b) ])
-        ])
-      ])
-    ]
+first_is w kind b = literal_first w.vars (λ part. quiet w (InList kind part)) (fails w) (leb w.vars (length w.lits)) b
 
 pub part_is : (w : DrupOf) (kind : ListKind) (part : Part) (b : ℕ) → visible_part w kind part b ≡ by_next w kind (part_next w.vars (leb w.vars (length w.lits)) part b)
 part_is w kind Gap b = first_is w kind b
-part_is w kind Minus b = digit_is w kind true 0 b
+part_is w kind Minus b = literal_digit w.vars (λ part. quiet w (InList kind part)) (fails w) true 0 b
 part_is w kind Zero b = refl
-part_is w kind (Digits l) b = digit_is w kind l.negated l.var b
+part_is w kind (Digits l) b = literal_digit w.vars (λ part. quiet w (InList kind part)) (fails w) l.negated l.var b
 
 -- what is said then
 pub told_ended : (kind : ListKind) (vars taken place : ℕ) (lits : List LitOf) → told_by (parser vars taken place Closed lits) (Some (ended kind)) ≡ ended_says kind place lits ∷ []

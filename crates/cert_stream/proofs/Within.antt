@@ -7,7 +7,7 @@ use Rattle.cert_stream.specs.Text.{Word, is_digit, lines_of, literal_of, words_f
 use Rattle.cert_stream.specs.Scan.{Scanned, Reads, Misfit, scan}
 use Rattle.cert_stream.specs.Words.{IsRead}
 use Rattle.cert_stream.specs.Telling.{Saying, IsUnknown}
-use Rattle.cert_stream.specs.Stream.{bad, ended_says, heard_says, behind_says, list_says, is_unknown, status_says, alone, plain_says, line_says, lines_say, sayings, AreWithin}
+use Rattle.cert_stream.specs.Stream.{bad, ended_says, heard_says, after_says, list_says, is_unknown, status_says, alone, plain_says, line_says, lines_say, sayings, AreWithin}
 use Rattle.cert_stream.specs.declared.mode.ListKind.{ListKind}
 use Rattle.cert_stream.specs.declared.mode.ListKind.TheVariants.{Clause, Deletion, Values}
 use Rattle.cert_stream.specs.declared.mode.ParseFaultKind.TheVariants.{BadLine}
@@ -31,15 +31,15 @@ module _ (vars : ℕ) where
   either true xs ys h k = h
   either false xs ys h k = k
 
-  behind_within : (more : List Saying) → AreWithin vars more → (ws : List Word) → AreWithin vars (behind_says more ws)
-  behind_within more m [] = m
-  behind_within more m (w ∷ ws) = (no_literal, tt)
+  after_within : (more : List Saying) → AreWithin vars more → (ws : List Word) → AreWithin vars (after_says more ws)
+  after_within more m [] = m
+  after_within more m (w ∷ ws) = (no_literal, tt)
 
   module _ (kind : ListKind) (counted : Bool) (unended more : List Saying) (place : ℕ) (u : AreWithin vars unended) (m : AreWithin vars more) where
-    ended_within : (lits : List LitOf) (ws : List Word) → ClauseWithin vars lits → (kind' : ListKind) → AreWithin vars (ended_says kind' place lits ∷ behind_says more ws)
-    ended_within lits ws h Clause = (h, behind_within more m ws)
-    ended_within lits ws h Deletion = (h, behind_within more m ws)
-    ended_within lits ws h Values = (no_literal, behind_within more m ws)
+    ended_within : (lits : List LitOf) (ws : List Word) → ClauseWithin vars lits → (kind' : ListKind) → AreWithin vars (ended_says kind' place lits ∷ after_says more ws)
+    ended_within lits ws h Clause = (h, after_within more m ws)
+    ended_within lits ws h Deletion = (h, after_within more m ws)
+    ended_within lits ws h Values = (no_literal, after_within more m ws)
 
     heard_within : (l : LitOf) (ss : List Saying) → LitWithin vars l → AreWithin vars ss → (kind' : ListKind) → AreWithin vars (heard_says kind' l ++ ss)
     heard_within l ss h k Clause = k

@@ -22,9 +22,9 @@ abbrev pub bad : ParseFaultKind → ℕ → List LratSaying
 bad kind byte = IsFault (record { kind = kind; byte = byte }) ∷ []
 
 -- after a line's last 0 only white space may stand
-abbrev pub behind_says : List LratSaying → List Word → List LratSaying
-behind_says more [] = more
-behind_says more (w ∷ ws) = bad BadLine w.place
+abbrev pub after_says : List LratSaying → List Word → List LratSaying
+after_says more [] = more
+after_says more (w ∷ ws) = bad BadLine w.place
 
 -- what a list of ids says with its 0: the hints make the clause whole
 abbrev pub ids_ended : IdList → ℕ → ℕ → List LitOf → List Hint → LratSaying
@@ -41,7 +41,7 @@ ids_say kind counted broken more place id lits hints (w ∷ ws) =
       | Reads part ↦ elim part [
         | IdGap ↦ ids_say kind counted broken more place id lits hints ws
         | IdMinus at ↦ cond w.done (bad BadLiteral (w.place + length w.text)) []
-        | IdZero ↦ cond (w.done || counted) (ids_ended kind place id lits hints ∷ behind_says more ws) []
+        | IdZero ↦ cond (w.done || counted) (ids_ended kind place id lits hints ∷ after_says more ws) []
         | IdDigits h ↦ cond w.done (ids_say kind counted broken more place id lits (hints ++ h ∷ []) ws) []
       ]
     ]
@@ -59,7 +59,7 @@ unended_says Values broken going = going
 -- after the 0 of a clause's literals its hints come
 abbrev pub lits_ended : LitList → Bool → Bool → List LratSaying → List LratSaying → ℕ → ℕ → List LitOf → List Word → List LratSaying
 lits_ended Clause done counted broken more place id lits ws = cond done (ids_say Hints counted broken more place id lits [] ws) []
-lits_ended Values done counted broken more place id lits ws = cond (done || counted) (IsValuesEnd ∷ behind_says more ws) []
+lits_ended Values done counted broken more place id lits ws = cond (done || counted) (IsValuesEnd ∷ after_says more ws) []
 
 -- the words of a list of literals, at most `vars` of them, then 0
 abbrev pub lits_say : ℕ → LitList → Bool → List LratSaying → List LratSaying → List LratSaying → ℕ → ℕ → List LitOf → List Word → List LratSaying

@@ -18,7 +18,7 @@ use Rattle.cert_stream.specs.declared.lrat.mode.IdList.TheVariants.{Hints, Delet
 use Rattle.cert_stream.specs.declared.lrat.mode.IdPart.{IdPart}
 use Rattle.cert_stream.specs.declared.lrat.mode.IdPart.TheVariants.{Gap as IdGap, Minus as IdMinus, Zero as IdZero, Digits as IdDigits}
 use Rattle.cert_stream.specs.declared.lrat.mode.Mode.{Mode}
-use Rattle.cert_stream.specs.declared.lrat.mode.Mode.TheVariants.{Start, Skip, ValuesHead, StatusHead, StatusGap, Spelled, Whole, InId, BehindId, DeletionHead, InLits, InIds, Closed, Bad}
+use Rattle.cert_stream.specs.declared.lrat.mode.Mode.TheVariants.{Start, Skip, ValuesHead, StatusHead, StatusGap, Spelled, Whole, InId, AfterId, DeletionHead, InLits, InIds, Closed, Bad}
 
 -- the greatest id, and the greatest number of hints or of deleted ids in a line
 abbrev pub most_id : ℕ
@@ -90,8 +90,8 @@ end_word w StatusHead = quiet w StatusGap
 end_word w StatusGap = quiet w StatusGap
 end_word w (Spelled n) = quiet w (cond (eqb n 7) Whole (Skip false))
 end_word w Whole = quiet w Whole
-end_word w (InId n) = record { to = record w { mode = BehindId; id = n }; event = None }
-end_word w BehindId = quiet w BehindId
+end_word w (InId n) = record { to = record w { mode = AfterId; id = n }; event = None }
+end_word w AfterId = quiet w AfterId
 end_word w DeletionHead = quiet w (InIds Deletion IdGap)
 end_word w (InLits kind part) = end_part w kind part
 end_word w (InIds kind part) = end_id_part w kind part
@@ -112,15 +112,15 @@ end_line w StatusGap = quiet w (Start false)
 end_line w (Spelled n) = quiet w (Start false)
 end_line w Whole = telling w (Start false) Unknown
 end_line w (InId n) = fails w BadLine
-end_line w BehindId = fails w BadLine
+end_line w AfterId = fails w BadLine
 end_line w DeletionHead = fails w BadLine
 end_line w (InLits kind part) = unended w kind
 end_line w (InIds kind part) = fails w BadLine
 end_line w Closed = quiet w (Start false)
 end_line w (Bad f) = quiet w (Bad f)
 
-abbrev pub feed_behind : Turn → Turn
-feed_behind t = record { to = (end_line t.to t.to.mode).to; event = first_of_both t.event (end_line t.to t.to.mode).event }
+abbrev pub feed_after : Turn → Turn
+feed_after t = record { to = (end_line t.to t.to.mode).to; event = first_of_both t.event (end_line t.to t.to.mode).event }
 
 -- digits after a number, with its sign
 abbrev pub visible_digit : LratOf → LitList → Bool → ℕ → ℕ → Turn
@@ -177,8 +177,8 @@ abbrev pub own_digit : LratOf → ℕ → ℕ → Turn
 own_digit w n b = cond (id_goes_on n b) (quiet w (InId (with_digit n b))) (fails w BadLiteral)
 
 -- after it, d tells a deletion
-abbrev pub visible_behind : LratOf → ℕ → Turn
-visible_behind w b = cond (eqb b 100) (quiet w DeletionHead) (visible_first w ClauseList b)
+abbrev pub visible_after_id : LratOf → ℕ → Turn
+visible_after_id w b = cond (eqb b 100) (quiet w DeletionHead) (visible_first w ClauseList b)
 
 -- the first visible byte of a line
 abbrev pub emptied : LratOf → LratOf
@@ -206,7 +206,7 @@ visible w StatusGap b = visible_spelled w 0 b
 visible w (Spelled n) b = visible_spelled w n b
 visible w Whole b = quiet w (Skip false)
 visible w (InId n) b = own_digit w n b
-visible w BehindId b = visible_behind w b
+visible w AfterId b = visible_after_id w b
 visible w DeletionHead b = fails w BadLine
 visible w (InLits kind part) b = visible_part w kind part b
 visible w (InIds kind part) b = id_part w kind part b
@@ -214,7 +214,7 @@ visible w Closed b = fails w BadLine
 visible w (Bad f) b = quiet w (Bad f)
 
 abbrev pub read : LratOf → ℕ → Turn
-read w b = cond (eqb b 10) (feed_behind (end_word w w.mode)) (cond (is_blank b) (end_word w w.mode) (visible w w.mode b))
+read w b = cond (eqb b 10) (feed_after (end_word w w.mode)) (cond (is_blank b) (end_word w w.mode) (visible w w.mode b))
 
 abbrev pub counted : ℕ → Turn → Turn
 counted taken t = record { to = record t.to { taken = taken + 1 }; event = t.event }
@@ -246,7 +246,7 @@ at_end StatusGap = None
 at_end (Spelled n) = cond (eqb n 7) (Some Unknown) None
 at_end Whole = Some Unknown
 at_end (InId n) = None
-at_end BehindId = None
+at_end AfterId = None
 at_end DeletionHead = None
 at_end (InLits kind part) = at_end_lits kind part
 at_end (InIds kind part) = at_end_ids kind part
@@ -269,7 +269,7 @@ is_in_number StatusGap = false
 is_in_number (Spelled n) = false
 is_in_number Whole = false
 is_in_number (InId n) = false
-is_in_number BehindId = false
+is_in_number AfterId = false
 is_in_number DeletionHead = false
 is_in_number (InLits kind part) = is_literal_part part
 is_in_number (InIds kind part) = is_id_number part
@@ -286,7 +286,7 @@ fault_of StatusGap = None
 fault_of (Spelled n) = None
 fault_of Whole = None
 fault_of (InId n) = None
-fault_of BehindId = None
+fault_of AfterId = None
 fault_of DeletionHead = None
 fault_of (InLits kind part) = None
 fault_of (InIds kind part) = None
@@ -309,7 +309,7 @@ IsModeWithin vars StatusGap = Unit {0}
 IsModeWithin vars (Spelled n) = Unit {0}
 IsModeWithin vars Whole = Unit {0}
 IsModeWithin vars (InId n) = n ≤ most_id
-IsModeWithin vars BehindId = Unit {0}
+IsModeWithin vars AfterId = Unit {0}
 IsModeWithin vars DeletionHead = Unit {0}
 IsModeWithin vars (InLits kind part) = IsPartWithin vars part
 IsModeWithin vars (InIds kind part) = IsIdPartWithin part

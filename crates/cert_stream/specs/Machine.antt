@@ -93,8 +93,8 @@ abbrev pub first_of_both : Option Event → Option Event → Option Event
 first_of_both None e = e
 first_of_both (Some d) e = Some d
 
-abbrev pub feed_behind : Turn → Turn
-feed_behind t = record { to = (end_line t.to t.to.mode).to; event = first_of_both t.event (end_line t.to t.to.mode).event }
+abbrev pub feed_after : Turn → Turn
+feed_after t = record { to = (end_line t.to t.to.mode).to; event = first_of_both t.event (end_line t.to t.to.mode).event }
 
 -- the number that the digits before it and this digit write, where it is one of a variable
 abbrev pub with_digit : ℕ → ℕ → ℕ
@@ -166,7 +166,7 @@ visible w (Bad f) b = quiet w (Bad f)
 visible w Lost b = quiet w Lost
 
 abbrev pub read : DrupOf → ℕ → Turn
-read w b = cond (eqb b 10) (feed_behind (end_word w w.mode)) (cond (is_blank b) (end_word w w.mode) (visible w w.mode b))
+read w b = cond (eqb b 10) (feed_after (end_word w w.mode)) (cond (is_blank b) (end_word w w.mode) (visible w w.mode b))
 
 abbrev pub counted : ℕ → Turn → Turn
 counted taken t = record { to = record t.to { taken = taken + 1 }; event = t.event }

@@ -34,7 +34,7 @@ IsListOf Values words ws = (first : Word) × (words ≡ first ∷ ws) × (first.
 pub data Reason (vars : ℕ) (amid fed : Bool) (feed : ℕ) (words : List Word) (f : ParseFault) : Type 0 where
   OtherLine : (first : Word) (others : List Word) → words ≡ first ∷ others → starts_line amid (slice_index first.text 0) ≡ false → IsAt f BadLine first.place → Reason vars amid fed feed words f
   NotAlone : (first : Word) (others : List Word) → words ≡ first ∷ others → is_alone amid (slice_index first.text 0) ≡ true → 2 ≤ length first.text → IsAt f BadLine (first.place + 1) → Reason vars amid fed feed words f
-  BehindZero : (kind : ListKind) (ws : List Word) (lits : List LitOf) (zero w : Word) (more : List Word) → IsListOf kind words (ws ++ zero ∷ w ∷ more) → Write vars ws lits → zero.text ≡ codes "0"
+  AfterZero : (kind : ListKind) (ws : List Word) (lits : List LitOf) (zero w : Word) (more : List Word) → IsListOf kind words (ws ++ zero ∷ w ∷ more) → Write vars ws lits → zero.text ≡ codes "0"
       → IsAt f BadLine w.place → Reason vars amid fed feed words f
   NoZero : (kind : ListKind) (ws : List Word) (lits : List LitOf) → fed ≡ true → (kind ≡ Clause) ⊎ (kind ≡ Deletion) → IsListOf kind words ws → Write vars ws lits
       → IsAt f BadLine feed → Reason vars amid fed feed words f

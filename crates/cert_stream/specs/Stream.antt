@@ -33,9 +33,9 @@ unended_says Deletion broken going = broken
 unended_says Values broken going = going
 
 -- after the 0 only white space may stand in its line
-abbrev pub behind_says : List Saying → List Word → List Saying
-behind_says more [] = more
-behind_says more (w ∷ ws) = bad BadLine w.place
+abbrev pub after_says : List Saying → List Word → List Saying
+after_says more [] = more
+after_says more (w ∷ ws) = bad BadLine w.place
 
 -- The words of a list whose line has its first visible byte at `place`: at most `vars` literals, of which it has `lits` so far,
 -- then 0. A literal counts once white space or a line feed follows it, a 0 also where the stream ends, which `counted` tells.
@@ -48,7 +48,7 @@ list_says vars kind counted unended more place lits (w ∷ ws) =
       | Reads part ↦ elim part [
         | Gap ↦ list_says vars kind counted unended more place lits ws
         | Minus ↦ cond w.done (bad BadLiteral (w.place + length w.text)) []
-        | Zero ↦ cond (w.done || counted) (ended_says kind place lits ∷ behind_says more ws) []
+        | Zero ↦ cond (w.done || counted) (ended_says kind place lits ∷ after_says more ws) []
         | Digits l ↦ cond w.done (heard_says kind l ++ list_says vars kind counted unended more place (lits ++ l ∷ []) ws) []
       ]
     ]

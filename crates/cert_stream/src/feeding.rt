@@ -160,7 +160,7 @@ impl DrupParser {
     }
 
     /// Takes the next piece of the stream, and hands to the receiver what the bytes say, until it stops. The answer is then
-    /// Stopped, and more bytes have no meaning; else it is the fault, if no stream begins with the bytes so far, or More. Want of
+    /// Stopped, and more bytes have no meaning; else it is the fault, if no stream begins with the bytes so far, or More. Out of
     /// memory, which is answered from then on, comes only where a literal was read or something said. A stream has fewer than 2^64
     /// bytes, and the receiver takes the literals of its variables.
     pub fn feed<R: Receiver>(

@@ -42,7 +42,6 @@ pub fn streams_say_lines()
 
 /// A fault's byte is the number of bytes of the longest part of the stream with which some stream begins. Where there is no
 /// fault, some stream begins with all bytes.
-#[tactic(auto, using(crate::proofs::Beginnings::fault_within, crate::proofs::Beginnings::begins_before, crate::proofs::Beginnings::begins_past, crate::proofs::Beginnings::begins_all))]
 pub fn fault_is_first()
     ensures within { (vars : ℕ) (ended : Bool) (bytes : List ℕ) (f : ParseFault) → HasFault (sayings vars ended bytes) f → f.byte < length bytes }
     ensures before { (vars : ℕ) (ended : Bool) (bytes : List ℕ) (f : ParseFault) → HasFault (sayings vars ended bytes) f → Begins vars (take f.byte bytes) }

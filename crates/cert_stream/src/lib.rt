@@ -8,6 +8,7 @@ pub mod lrat;
 mod mode;
 mod parser;
 mod steps;
+mod word;
 
 pub use feeding::{Fed, Receiver};
 pub use laws::{
@@ -16,5 +17,5 @@ pub use laws::{
     streams_say_lines, whole_lines_are_said, words_are_read,
 };
 pub use mode::{Event, ListKind, Mode, ParseFault, ParseFaultKind, Part};
-pub use parser::DrupParser;
+pub use parser::{DrupParser, before_feed};
 pub use steps::Steps;

@@ -1,47 +1,19 @@
 // What is kept of a stream.
 
-ghost use Rattle.std.specs.Prelude.{◌≡◌, ℕ, ◌+◌, ◌<◌, ◌≤◌, ◌^◌, ◌↔◌, IsTrue, cond, Bool, true, false, List, [], ◌∷◌, ◌++◌, length, take, drop, Option, Some, None, IfOk, OnErr};
-ghost use Rattle.cnf_form.specs.Cnf.{LitOf, ClauseWithin};
+ghost use Rattle.std.specs.Prelude.{◌≡◌, ◌+◌, ◌<◌, ◌≤◌, ◌^◌, ◌↔◌, IsTrue, true, false, length, take, drop, Option, Some, None, IfOk, OnErr};
+ghost use Rattle.cnf_form.specs.Cnf.{ClauseWithin};
 ghost use Rattle.cnf_form.specs.declared.literal.TheConstants.{MAX_VARS};
-ghost use Rattle.cert_stream.specs.Machine.{DrupOf, Turn, IsPartWithin, IsEventWithin, fault_of, at_end, begins_literal, counted, end_line, end_part, end_word, ended, fails, first_of_both, goes_on, heard, is_in_literal, is_literal_part, read, spelling, turn, unended, visible, visible_digit, visible_first, visible_part, visible_plain, visible_spelled, visible_start, emptied, with_digit};
+ghost use Rattle.cert_stream.specs.Machine.{DrupOf, IsPartWithin, IsEventWithin, fault_of, at_end, end_line, end_part, end_word, ended, fails, heard, is_in_literal, is_literal_part, read, turn, unended, visible, visible_part, visible_plain, visible_spelled, visible_start, emptied};
 ghost use Rattle.cert_stream.specs.Telling.{TakesMemory, after, said, fresh};
-ghost use Rattle.cert_stream.specs.Text.{NoFeed, is_blank, is_digit};
+ghost use Rattle.cert_stream.specs.Text.{NoFeed};
 ghost use Rattle.cert_stream.specs.declared.mode.Mode.TheVariants.{Lost};
 
 use crate::mode::{Event, ListKind, Mode, ParseFault, ParseFaultKind, Part};
+use crate::word::{is_blank, part_next, spelling};
 use cnf_form::Lit;
 use memchr::memchr;
 use std::alloc::{AllocError, Global};
 use std::marker::Model;
-
-fn is_blank(b: u8) -> bool
-    ensures { result ≡ is_blank b }
-{
-    b == b' ' || b == b'\t' || b == b'\r'
-}
-
-// Whether the number that these digits and this byte write is one of a variable.
-fn with_digit(vars: u32, n: u32, b: u8) -> Option<u32>
-    requires { vars ≤ MAX_VARS }
-    ensures { result ≡ cond (goes_on vars n b) (Some (with_digit n b)) None }
-{
-    if !(b'0'..=b'9').contains(&b) {
-        return None;
-    }
-    let value = 10 * n as u64 + (b - b'0') as u64;
-    if value >= 1 && value <= vars as u64 {
-        Some(value as u32)
-    } else {
-        None
-    }
-}
-
-fn begins_literal(vars: u32, b: u8) -> bool
-    requires { vars ≤ MAX_VARS }
-    ensures { result ≡ begins_literal vars b }
-{
-    b == b'-' && vars >= 1 || with_digit(vars, 0, b).is_some()
-}
 
 /// Reads a stream, and keeps nothing of earlier lines, and of its line no more than its literals so far.
 #[derive(Drop)]
@@ -85,30 +57,15 @@ fn heard(kind: ListKind, l: Lit) -> Option<Event>
     }
 }
 
-// How many bytes stand before the first line feed.
+/// How many bytes stand before the first line feed.
 #[tactic(auto, using(crate::proofs::Passing::no_feed_take))]
-fn before_feed(bytes: &[u8]) -> usize
+pub fn before_feed(bytes: &[u8]) -> usize
     ensures within { result ≤ length bytes.now }
     ensures none { NoFeed (take result bytes.now) }
 {
     match memchr(b'\n', bytes) {
         Some(count) => count,
         None => bytes.len(),
-    }
-}
-
-fn spelling(n: u8) -> u8
-    ensures { result ≡ spelling n }
-{
-    match n {
-        0 => b'U',
-        1 => b'N',
-        2 => b'K',
-        3 => b'N',
-        4 => b'O',
-        5 => b'W',
-        6 => b'N',
-        _ => 0,
     }
 }
 
@@ -215,47 +172,14 @@ impl DrupParser {
         None
     }
 
-    fn visible_digit(&mut self, kind: ListKind, negated: bool, n: u32, b: u8)
-        ensures { self.new ≡ (visible_digit self.old kind negated n b).to }
-    {
-        match with_digit(self.vars, n, b) {
-            Some(value) => {
-                self.mode = Mode::InList(kind, Part::Digits(Lit::new(value, negated)));
-            }
-            None => self.fail(ParseFaultKind::BadLiteral),
-        }
-    }
-
-    fn visible_first(&mut self, kind: ListKind, b: u8)
-        ensures { self.new ≡ (visible_first self.old kind b).to }
-    {
-        if b == b'0' {
-            self.mode = Mode::InList(kind, Part::Zero);
-            return;
-        }
-        if !begins_literal(self.vars, b) {
-            self.fail(ParseFaultKind::BadLiteral);
-            return;
-        }
-        if self.lits.len() >= self.vars as usize {
-            self.fail(ParseFaultKind::LineTooLong);
-            return;
-        }
-        if b == b'-' {
-            self.mode = Mode::InList(kind, Part::Minus);
-        } else {
-            self.visible_digit(kind, false, 0, b);
-        }
-    }
-
+    #[tactic(auto, using(crate::proofs::Turning::part_is))]
     fn visible_part(&mut self, kind: ListKind, part: Part, b: u8)
         ensures { self.new ≡ (visible_part self.old kind part b).to }
     {
-        match part {
-            Part::Gap => self.visible_first(kind, b),
-            Part::Minus => self.visible_digit(kind, true, 0, b),
-            Part::Zero => self.fail(ParseFaultKind::BadLiteral),
-            Part::Digits(l) => self.visible_digit(kind, l.is_negated(), l.var(), b),
+        let full = self.lits.len() >= self.vars as usize;
+        match part_next(self.vars, full, part, b) {
+            Ok(part) => self.mode = Mode::InList(kind, part),
+            Err(fault) => self.fail(fault),
         }
     }
 
@@ -265,7 +189,7 @@ impl DrupParser {
         match b {
             b's' => self.mode = Mode::StatusHead,
             b'd' => self.mode = Mode::Head(ListKind::Deletion),
-            b'-' | b'0'..=b'9' => self.visible_first(ListKind::Clause, b),
+            b'-' | b'0'..=b'9' => self.visible_part(ListKind::Clause, Part::Gap, b),
             _ => self.fail(ParseFaultKind::BadLine),
         }
     }

@@ -30,7 +30,7 @@ impl<L: Ledger> Steps<L> {
         Steps { book, share }
     }
 
-    /// One step more.
+    /// One more step.
     pub fn tick(&mut self)
         ensures { self.new ≡ self.old + 1 }
     {

@@ -8,12 +8,12 @@ use Rattle.cert_stream.specs.Telling.{IsClause, IsDelete, IsValue, IsValuesEnd, 
 use Rattle.inv_stream.specs.Machine.{InvSaying, IsFault, IsNext, Says}
 use Rattle.inv_stream.specs.declared.mode.Part.{Part}
 use Rattle.inv_stream.specs.declared.mode.Part.TheVariants.{Head, Inv, Start, Step, Safe}
-use Rattle.inv_fate.specs.Fate.{AreAdmitted, ClauseComesTo, Comes, ComesTo, InvFate, IsOverBits, NextComesTo, after, opened, owed}
+use Rattle.inv_fate.specs.Fate.{AreAdmitted, ClauseFate, StreamFate, SayingsFate, InvFate, IsOverBits, NextFate, after, opened, owed}
 use Rattle.inv_fate.proofs.Finding.{Clauses}
 use Rattle.inv_fate.proofs.Sounding.{empty_or_not}
 
 module _ (p : PairOf) where
-  next_more : (part : Part) (I F : Clauses) (place : ℕ) (R S : Type 0) (fate : Option InvFate) → (R → S) → NextComesTo p part I F place R fate → NextComesTo p part I F place S fate
+  next_more : (part : Part) (I F : Clauses) (place : ℕ) (R S : Type 0) (fate : Option InvFate) → (R → S) → NextFate p part I F place R fate → NextFate p part I F place S fate
   next_more Head I F place R S fate more h = more h
   next_more Inv I F place R S fate more h = more h
   next_more Start I F place R S fate more (inl (a, h)) = inl (a, more h)
@@ -23,7 +23,7 @@ module _ (p : PairOf) where
   next_more Safe I F place R S fate more h = h
 
   clause_more : (part : Part) (F : Clauses) (c : List LitOf) (place : ℕ) (L M R S : Type 0) (fate : Option InvFate) → (L → M) → (R → S) →
-      ClauseComesTo p part F c place L R fate → ClauseComesTo p part F c place M S fate
+      ClauseFate p part F c place L R fate → ClauseFate p part F c place M S fate
   clause_more Head F c place L M R S fate list join h = h
   clause_more Inv F c place L M R S fate list join (inl (o, h)) = inl (o, list h)
   clause_more Inv F c place L M R S fate list join (inr h) = inr h
@@ -35,7 +35,7 @@ module _ (p : PairOf) where
   clause_more Safe F c place L M R S fate list join (inr (inl (a, n, h))) = inr (inl (a, n, join h))
   clause_more Safe F c place L M R S fate list join (inr (inr h)) = inr (inr h)
 
-  pub comes_more : (part : Part) (I F : Clauses) (ss more : List InvSaying) (fate : InvFate) → ComesTo p part I F ss (Some fate) → ComesTo p part I F (ss ++ more) (Some fate)
+  pub comes_more : (part : Part) (I F : Clauses) (ss more : List InvSaying) (fate : InvFate) → SayingsFate p part I F ss (Some fate) → SayingsFate p part I F (ss ++ more) (Some fate)
   comes_more part I F [] more fate h = cc
   comes_more part I F (IsNext place ∷ ss) more fate h =
       next_more part I F place _ _ (Some fate) (comes_more (after part) I (opened p (after part) I) ss more fate) h
@@ -63,7 +63,7 @@ module _ (p : PairOf) where
   owed_once F G cs R S x y bad w once (inr (a, h)) (inr (b, k)) = h ∙ sym k
 
   next_once : (part : Part) (I F G : Clauses) (place : ℕ) (R S : Type 0) (x y : Option InvFate) → Alike F G → (R → S → x ≡ y) →
-      NextComesTo p part I F place R x → NextComesTo p part I G place S y → x ≡ y
+      NextFate p part I F place R x → NextFate p part I G place S y → x ≡ y
   next_once Head I F G place R S x y w once h k = once h k
   next_once Inv I F G place R S x y w once h k = once h k
   next_once Start I F G place R S x y w once h k = owed_once F G (owed p Start I) R S x y _ w once h k
@@ -98,14 +98,14 @@ module _ (p : PairOf) where
   bits_once c L M x y bad once (inr (a, h)) (inr (b, k)) = h ∙ sym k
 
   clause_once : (part : Part) (F G : Clauses) (c : List LitOf) (place : ℕ) (L M R S : Type 0) (x y : Option InvFate) → Alike F G → (L → M → x ≡ y) → (R → S → x ≡ y) →
-      ClauseComesTo p part F c place L R x → ClauseComesTo p part G c place M S y → x ≡ y
+      ClauseFate p part F c place L R x → ClauseFate p part G c place M S y → x ≡ y
   clause_once Head F G c place L M R S x y w list join h k = h ∙ sym k
   clause_once Inv F G c place L M R S x y w list join h k = bits_once c L M x y _ list h k
   clause_once Start F G c place L M R S x y w list join h k = proof_once F G c R S x y _ w join h k
   clause_once Step F G c place L M R S x y w list join h k = proof_once F G c R S x y _ w join h k
   clause_once Safe F G c place L M R S x y w list join h k = last_once F G c R S x y _ _ w join h k
 
-  comes_alike : (part : Part) (I F G : Clauses) (ss : List InvSaying) (x y : Option InvFate) → Alike F G → ComesTo p part I F ss x → ComesTo p part I G ss y → x ≡ y
+  comes_alike : (part : Part) (I F G : Clauses) (ss : List InvSaying) (x y : Option InvFate) → Alike F G → SayingsFate p part I F ss x → SayingsFate p part I G ss y → x ≡ y
   comes_alike part I F G [] x y w h k = h ∙ sym k
   comes_alike part I F G (IsNext place ∷ ss) x y w h k =
       next_once part I F G place _ _ x y w
@@ -120,12 +120,12 @@ module _ (p : PairOf) where
   comes_alike part I F G (Says (IsParseFault f) ∷ ss) x y w h k = h ∙ sym k
   comes_alike part I F G (IsFault f ∷ ss) x y w h k = h ∙ sym k
 
-  pub comes_once : (ss : List InvSaying) (x y : Option InvFate) → Comes p ss x → Comes p ss y → x ≡ y
+  pub comes_once : (ss : List InvSaying) (x y : Option InvFate) → StreamFate p ss x → StreamFate p ss y → x ≡ y
   comes_once ss x y h k = comes_alike Head [] [] [] ss x y (alike_itself []) h k
 
-  -- what refutes that a list of sayings comes to something
+  -- what refutes that a list of sayings has a fate
   abbrev Nowhere : Part → Clauses → Clauses → List InvSaying → Type 0
-  Nowhere part I F ss = (x : Option InvFate) → ComesTo p part I F ss x → ⊥
+  Nowhere part I F ss = (x : Option InvFate) → SayingsFate p part I F ss x → ⊥
 
   proof_somewhere : (F : Clauses) (c : List LitOf) (bad : Option InvFate) (R : Option InvFate → Type 0) → (((x : Option InvFate) → R x → ⊥) → ⊥) →
       ((x : Option InvFate) → ((IsAdmitted F c × R x) ⊎ ((IsAdmitted F c → ⊥) × (x ≡ bad))) → ⊥) → ⊥
@@ -149,18 +149,18 @@ module _ (p : PairOf) where
   comes_somewhere Head I F (IsNext place ∷ ss) k = comes_somewhere Inv I (opened p Inv I) ss k
   comes_somewhere Inv I F (IsNext place ∷ ss) k = comes_somewhere Start I (opened p Start I) ss k
   comes_somewhere Start I F (IsNext place ∷ ss) k =
-      owed_somewhere F (owed p Start I) _ (ComesTo p Step I (opened p Step I) ss) (comes_somewhere Step I (opened p Step I) ss) k
+      owed_somewhere F (owed p Start I) _ (SayingsFate p Step I (opened p Step I) ss) (comes_somewhere Step I (opened p Step I) ss) k
   comes_somewhere Step I F (IsNext place ∷ ss) k =
-      owed_somewhere F (owed p Step I) _ (ComesTo p Safe I (opened p Safe I) ss) (comes_somewhere Safe I (opened p Safe I) ss) k
+      owed_somewhere F (owed p Step I) _ (SayingsFate p Safe I (opened p Safe I) ss) (comes_somewhere Safe I (opened p Safe I) ss) k
   comes_somewhere Safe I F (IsNext place ∷ ss) k = k _ refl
   comes_somewhere Head I F (Says (IsClause c place) ∷ ss) k = k _ refl
-  comes_somewhere Inv I F (Says (IsClause c place) ∷ ss) k = bits_somewhere c _ (ComesTo p Inv (I ++ c ∷ []) F ss) (comes_somewhere Inv (I ++ c ∷ []) F ss) k
+  comes_somewhere Inv I F (Says (IsClause c place) ∷ ss) k = bits_somewhere c _ (SayingsFate p Inv (I ++ c ∷ []) F ss) (comes_somewhere Inv (I ++ c ∷ []) F ss) k
   comes_somewhere Start I F (Says (IsClause c place) ∷ ss) k =
-      proof_somewhere F c _ (ComesTo p Start I (F ++ c ∷ []) ss) (comes_somewhere Start I (F ++ c ∷ []) ss) k
+      proof_somewhere F c _ (SayingsFate p Start I (F ++ c ∷ []) ss) (comes_somewhere Start I (F ++ c ∷ []) ss) k
   comes_somewhere Step I F (Says (IsClause c place) ∷ ss) k =
-      proof_somewhere F c _ (ComesTo p Step I (F ++ c ∷ []) ss) (comes_somewhere Step I (F ++ c ∷ []) ss) k
+      proof_somewhere F c _ (SayingsFate p Step I (F ++ c ∷ []) ss) (comes_somewhere Step I (F ++ c ∷ []) ss) k
   comes_somewhere Safe I F (Says (IsClause c place) ∷ ss) k =
-      last_somewhere F c _ _ (ComesTo p Safe I (F ++ c ∷ []) ss) (comes_somewhere Safe I (F ++ c ∷ []) ss) k
+      last_somewhere F c _ _ (SayingsFate p Safe I (F ++ c ∷ []) ss) (comes_somewhere Safe I (F ++ c ∷ []) ss) k
   comes_somewhere part I F (Says (IsDelete c) ∷ ss) k = some_deletion F c (λ G d. comes_somewhere part I G ss (λ x h. k x (G, d, h)))
   comes_somewhere part I F (Says (IsValue l) ∷ ss) k = comes_somewhere part I F ss k
   comes_somewhere part I F (Says IsValuesEnd ∷ ss) k = comes_somewhere part I F ss k

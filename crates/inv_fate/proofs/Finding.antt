@@ -9,7 +9,7 @@ use Rattle.cert_stream.specs.Telling.{IsClause, IsDelete, IsValue, IsValuesEnd, 
 use Rattle.inv_stream.specs.Machine.{InvSaying, IsFault, IsNext, Says}
 use Rattle.inv_stream.specs.declared.mode.Part.{Part}
 use Rattle.inv_stream.specs.declared.mode.Part.TheVariants.{Head, Inv, Start, Step, Safe}
-use Rattle.inv_fate.specs.Fate.{AreAdmitted, ComesTo, Found, IsOverBits, opened, owed}
+use Rattle.inv_fate.specs.Fate.{AreAdmitted, SayingsFate, Found, IsOverBits, opened, owed}
 use Rattle.inv_fate.specs.Cert.{IsCertOf}
 
 abbrev pub Clauses : Type 0
@@ -35,7 +35,7 @@ module _ (p : PairOf) where
   abbrev pub Admits : Part → Clauses → Clauses → Type 0
   Admits part I G = AreAdmitted G (owed p part I)
 
-  pub safe_found : (I F : Clauses) (ss : List InvSaying) → ComesTo p Safe I F ss (Some Found) → Leads F Refutes
+  pub safe_found : (I F : Clauses) (ss : List InvSaying) → SayingsFate p Safe I F ss (Some Found) → Leads F Refutes
   safe_found I F [] e = cc
   safe_found I F (IsNext place ∷ ss) e = cc
   safe_found I F (Says (IsClause c place) ∷ ss) (inl (a, n, e)) = done F Refutes (subst (IsAdmitted F) n a)
@@ -48,7 +48,7 @@ module _ (p : PairOf) where
   safe_found I F (Says (IsParseFault f) ∷ ss) e = cc
   safe_found I F (IsFault f ∷ ss) e = cc
 
-  pub step_found : (I F : Clauses) (ss : List InvSaying) → ComesTo p Step I F ss (Some Found) → Leads F (Admits Step I) × Leads (opened p Safe I) Refutes
+  pub step_found : (I F : Clauses) (ss : List InvSaying) → SayingsFate p Step I F ss (Some Found) → Leads F (Admits Step I) × Leads (opened p Safe I) Refutes
   step_found I F [] e = cc
   step_found I F (IsNext place ∷ ss) (inl (a, h)) = (done F (Admits Step I) a, safe_found I (opened p Safe I) ss h)
   step_found I F (IsNext place ∷ ss) (inr (n, e)) = cc
@@ -61,7 +61,7 @@ module _ (p : PairOf) where
   step_found I F (Says (IsParseFault f) ∷ ss) e = cc
   step_found I F (IsFault f ∷ ss) e = cc
 
-  pub start_found : (I F : Clauses) (ss : List InvSaying) → ComesTo p Start I F ss (Some Found) →
+  pub start_found : (I F : Clauses) (ss : List InvSaying) → SayingsFate p Start I F ss (Some Found) →
       Leads F (Admits Start I) × Leads (opened p Step I) (Admits Step I) × Leads (opened p Safe I) Refutes
   start_found I F [] e = cc
   start_found I F (IsNext place ∷ ss) (inl (a, h)) = let r = step_found I (opened p Step I) ss h in (done F (Admits Start I) a, r.0, r.1)
@@ -75,7 +75,7 @@ module _ (p : PairOf) where
   start_found I F (Says (IsParseFault f) ∷ ss) e = cc
   start_found I F (IsFault f ∷ ss) e = cc
 
-  pub inv_found : (I F : Clauses) (ss : List InvSaying) → ((c : List LitOf) → Contains I c → IsOverBits p c) → ComesTo p Inv I F ss (Some Found) → (J : Clauses) × IsCertOf p J
+  pub inv_found : (I F : Clauses) (ss : List InvSaying) → ((c : List LitOf) → Contains I c → IsOverBits p c) → SayingsFate p Inv I F ss (Some Found) → (J : Clauses) × IsCertOf p J
   inv_found I F [] o e = cc
   inv_found I F (IsNext place ∷ ss) o h = let r = start_found I (opened p Start I) ss h in (I, record { bits = o; start = r.0; step = r.1; safe = r.2 })
   inv_found I F (Says (IsClause c place) ∷ ss) o (inl (over, h)) =
@@ -88,7 +88,7 @@ module _ (p : PairOf) where
   inv_found I F (Says (IsParseFault f) ∷ ss) o e = cc
   inv_found I F (IsFault f ∷ ss) o e = cc
 
-  pub head_found : (F : Clauses) (ss : List InvSaying) → ComesTo p Head [] F ss (Some Found) → (J : Clauses) × IsCertOf p J
+  pub head_found : (F : Clauses) (ss : List InvSaying) → SayingsFate p Head [] F ss (Some Found) → (J : Clauses) × IsCertOf p J
   head_found F [] e = cc
   head_found F (IsNext place ∷ ss) h = inv_found [] (opened p Inv []) ss (λ c k. absurd (Contains-empty c k)) h
   head_found F (Says (IsClause c place) ∷ ss) e = cc

@@ -11,7 +11,7 @@ use Rattle.cert_stream.specs.Telling.{IsClause, IsDelete}
 use Rattle.inv_stream.specs.Machine.{InvSaying, IsNext, Says}
 use Rattle.inv_stream.specs.declared.mode.Part.{Part}
 use Rattle.inv_stream.specs.declared.mode.Part.TheVariants.{Inv, Start, Step, Safe}
-use Rattle.inv_fate.specs.Fate.{AreAdmitted, Comes, ComesTo, Found, IsOverBits, opened, owed}
+use Rattle.inv_fate.specs.Fate.{AreAdmitted, StreamFate, SayingsFate, Found, IsOverBits, opened, owed}
 use Rattle.inv_fate.specs.Cert.{IsCertOf, Shows}
 use Rattle.inv_fate.proofs.Finding.{Clauses}
 
@@ -56,7 +56,7 @@ append_none [] = refl
 append_none (d ∷ I) = let e = append_none I in cc
 
 module _ (p : PairOf) where
-  safe_said : (I F : Clauses) (lines : List Line) (G : Clauses) → Drup F lines G → IsAdmitted G [] → ComesTo p Safe I F (said lines (Says (IsClause [] 0) ∷ [])) (Some Found)
+  safe_said : (I F : Clauses) (lines : List Line) (G : Clauses) → Drup F lines G → IsAdmitted G [] → SayingsFate p Safe I F (said lines (Says (IsClause [] 0) ∷ [])) (Some Found)
   safe_said I F [] G e a = inl (subst (λ (H : Clauses). IsAdmitted H []) e a, refl, refl)
   safe_said I F (Addition c ∷ ls) G (b, d) a = elim (empty_or_not c) [
     | inl e ↦ inl (b, e, refl)
@@ -65,27 +65,27 @@ module _ (p : PairOf) where
   safe_said I F (Deletion c ∷ ls) G (H, d, e) a = (H, d, safe_said I H ls G e a)
 
   step_said : (I F : Clauses) (lines : List Line) (G : Clauses) (more : List InvSaying) → Drup F lines G → AreAdmitted G (owed p Step I) →
-      ComesTo p Safe I (opened p Safe I) more (Some Found) → ComesTo p Step I F (said lines (IsNext 0 ∷ more)) (Some Found)
+      SayingsFate p Safe I (opened p Safe I) more (Some Found) → SayingsFate p Step I F (said lines (IsNext 0 ∷ more)) (Some Found)
   step_said I F [] G more e a h = inl (subst (λ (H : Clauses). AreAdmitted H (owed p Step I)) e a, h)
   step_said I F (Addition c ∷ ls) G more (b, d) a h = inl (b, step_said I (F ++ c ∷ []) ls G more d a h)
   step_said I F (Deletion c ∷ ls) G more (H, d, e) a h = (H, d, step_said I H ls G more e a h)
 
   start_said : (I F : Clauses) (lines : List Line) (G : Clauses) (more : List InvSaying) → Drup F lines G → AreAdmitted G (owed p Start I) →
-      ComesTo p Step I (opened p Step I) more (Some Found) → ComesTo p Start I F (said lines (IsNext 0 ∷ more)) (Some Found)
+      SayingsFate p Step I (opened p Step I) more (Some Found) → SayingsFate p Start I F (said lines (IsNext 0 ∷ more)) (Some Found)
   start_said I F [] G more e a h = inl (subst (λ (H : Clauses). AreAdmitted H (owed p Start I)) e a, h)
   start_said I F (Addition c ∷ ls) G more (b, d) a h = inl (b, start_said I (F ++ c ∷ []) ls G more d a h)
   start_said I F (Deletion c ∷ ls) G more (H, d, e) a h = (H, d, start_said I H ls G more e a h)
 
-  inv_said : (I J : Clauses) (more : List InvSaying) → ((c : List LitOf) → Contains J c → IsOverBits p c) → ComesTo p Start (I ++ J) (opened p Start (I ++ J)) more (Some Found) →
-      ComesTo p Inv I [] (listed J (IsNext 0 ∷ more)) (Some Found)
-  inv_said I [] more o h = subst (λ (K : Clauses). ComesTo p Start K (opened p Start K) more (Some Found)) (append_none I) h
+  inv_said : (I J : Clauses) (more : List InvSaying) → ((c : List LitOf) → Contains J c → IsOverBits p c) → SayingsFate p Start (I ++ J) (opened p Start (I ++ J)) more (Some Found) →
+      SayingsFate p Inv I [] (listed J (IsNext 0 ∷ more)) (Some Found)
+  inv_said I [] more o h = subst (λ (K : Clauses). SayingsFate p Start K (opened p Start K) more (Some Found)) (append_none I) h
   inv_said I (c ∷ J) more o h =
       inl (
         o c (Contains-head c J),
-        inv_said (I ++ c ∷ []) J more (λ d k. o d (Contains-tail c d J k)) (subst (λ (K : Clauses). ComesTo p Start K (opened p Start K) more (Some Found)) (sym (append_one I J c)) h),
+        inv_said (I ++ c ∷ []) J more (λ d k. o d (Contains-tail c d J k)) (subst (λ (K : Clauses). SayingsFate p Start K (opened p Start K) more (Some Found)) (sym (append_one I J c)) h),
       )
 
-  pub is_found : (I : Clauses) → IsCertOf p I → (ss : List InvSaying) × Comes p ss (Some Found)
+  pub is_found : (I : Clauses) → IsCertOf p I → (ss : List InvSaying) × StreamFate p ss (Some Found)
   is_found I cert =
       let safe = safe_said I (opened p Safe I) cert.safe.0 cert.safe.1 cert.safe.2 cert.safe.3 in
       let step = step_said I (opened p Step I) cert.step.0 cert.step.1 (said cert.safe.0 (Says (IsClause [] 0) ∷ [])) cert.step.2 cert.step.3 safe in

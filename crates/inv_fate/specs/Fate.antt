@@ -1,4 +1,4 @@
--- What a stream of an invariant comes to: a certificate, or why it is none.
+-- The fate of a stream of an invariant: a certificate, or why it is none.
 use Rattle.std.specs.Prelude.{◌≡◌, ◌≢◌, ◌⊎◌, ℕ, ◌<◌, ◌≤◌, Bool, true, false, List, [], ◌∷◌, ◌++◌, Option, Some, None, Contains, length, take}
 use Rattle.cnf_form.specs.Cnf.{LitOf, IsAdmitted, Deletes}
 use Rattle.cert_stream.specs.Telling.{IsClause, IsDelete, IsValue, IsValuesEnd, IsUnknown, IsFault as IsParseFault}
@@ -58,58 +58,58 @@ abbrev pub IsOverBits : PairOf → List LitOf → Type 0
 IsOverBits p c = (l : LitOf) → Contains c l → bit_lits p First l.var ≢ None
 
 -- another part begins: what the one before it owes has to be admitted
-abbrev pub NextComesTo : PairOf → Part → List (List LitOf) → List (List LitOf) → ℕ → Type 0 → Option InvFate → Type 0
-NextComesTo p Head I F place rest fate = rest
-NextComesTo p Inv I F place rest fate = rest
-NextComesTo p Start I F place rest fate =
+abbrev pub NextFate : PairOf → Part → List (List LitOf) → List (List LitOf) → ℕ → Type 0 → Option InvFate → Type 0
+NextFate p Head I F place rest fate = rest
+NextFate p Inv I F place rest fate = rest
+NextFate p Start I F place rest fate =
     (AreAdmitted F (owed p Start I) × rest) ⊎ ((AreAdmitted F (owed p Start I) → ⊥) × (fate ≡ Some (Bad NotInvariant place)))
-NextComesTo p Step I F place rest fate =
+NextFate p Step I F place rest fate =
     (AreAdmitted F (owed p Step I) × rest) ⊎ ((AreAdmitted F (owed p Step I) → ⊥) × (fate ≡ Some (Bad NotInvariant place)))
-NextComesTo p Safe I F place rest fate = fate ≡ Some (Bad BadPart place)
+NextFate p Safe I F place rest fate = fate ≡ Some (Bad BadPart place)
 
 -- a clause of a proof has to be admitted; after it what comes then counts
-abbrev pub ProofComesTo : List (List LitOf) → List LitOf → ℕ → Type 0 → Option InvFate → Type 0
-ProofComesTo F lits place rest fate = (IsAdmitted F lits × rest) ⊎ ((IsAdmitted F lits → ⊥) × (fate ≡ Some (Bad NotRup place)))
+abbrev pub ProofFate : List (List LitOf) → List LitOf → ℕ → Type 0 → Option InvFate → Type 0
+ProofFate F lits place rest fate = (IsAdmitted F lits × rest) ⊎ ((IsAdmitted F lits → ⊥) × (fate ≡ Some (Bad NotRup place)))
 
 -- A clause of the invariant is over state bits that have literals, and is put after the others; one of a proof has to be admitted, and the empty
 -- one completes the last part.
-abbrev pub ClauseComesTo : PairOf → Part → List (List LitOf) → List LitOf → ℕ → Type 0 → Type 0 → Option InvFate → Type 0
-ClauseComesTo p Head F lits place listed joined fate = fate ≡ Some (Bad BadPart place)
-ClauseComesTo p Inv F lits place listed joined fate = (IsOverBits p lits × listed) ⊎ ((IsOverBits p lits → ⊥) × (fate ≡ Some (Bad BadLiteral place)))
-ClauseComesTo p Start F lits place listed joined fate = ProofComesTo F lits place joined fate
-ClauseComesTo p Step F lits place listed joined fate = ProofComesTo F lits place joined fate
-ClauseComesTo p Safe F lits place listed joined fate =
+abbrev pub ClauseFate : PairOf → Part → List (List LitOf) → List LitOf → ℕ → Type 0 → Type 0 → Option InvFate → Type 0
+ClauseFate p Head F lits place listed joined fate = fate ≡ Some (Bad BadPart place)
+ClauseFate p Inv F lits place listed joined fate = (IsOverBits p lits × listed) ⊎ ((IsOverBits p lits → ⊥) × (fate ≡ Some (Bad BadLiteral place)))
+ClauseFate p Start F lits place listed joined fate = ProofFate F lits place joined fate
+ClauseFate p Step F lits place listed joined fate = ProofFate F lits place joined fate
+ClauseFate p Safe F lits place listed joined fate =
     (IsAdmitted F lits × (lits ≡ []) × (fate ≡ Some Found)) ⊎ (IsAdmitted F lits × (lits ≢ []) × joined) ⊎ ((IsAdmitted F lits → ⊥) × (fate ≡ Some (Bad NotRup place)))
 
--- What sayings come to, after the word of a part, where I are the clauses of the invariant so far and F those that are present. None
--- where they come to nothing yet. No line of such a stream tells values.
-abbrev pub ComesTo : PairOf → Part → List (List LitOf) → List (List LitOf) → List InvSaying → Option InvFate → Type 0
-ComesTo p part I F [] fate = fate ≡ None
-ComesTo p part I F (IsNext place ∷ ss) fate = NextComesTo p part I F place (ComesTo p (after part) I (opened p (after part) I) ss fate) fate
-ComesTo p part I F (Says (IsClause lits place) ∷ ss) fate =
-    ClauseComesTo p part F lits place (ComesTo p part (I ++ lits ∷ []) F ss fate) (ComesTo p part I (F ++ lits ∷ []) ss fate) fate
-ComesTo p part I F (Says (IsDelete lits) ∷ ss) fate = (G : List (List LitOf)) × Deletes F lits G × ComesTo p part I G ss fate
-ComesTo p part I F (Says (IsValue l) ∷ ss) fate = ComesTo p part I F ss fate
-ComesTo p part I F (Says IsValuesEnd ∷ ss) fate = ComesTo p part I F ss fate
-ComesTo p part I F (Says IsUnknown ∷ ss) fate = fate ≡ Some Unknown
-ComesTo p part I F (Says (IsParseFault f) ∷ ss) fate = fate ≡ Some (Bad (cert_kind f.kind) f.byte)
-ComesTo p part I F (IsFault f ∷ ss) fate = fate ≡ Some (Bad (fault_kind f.kind) f.byte)
+-- The fate of sayings, after the word of a part, where I are the clauses of the invariant so far and F those that are present. None
+-- where they are undecided. No line of such a stream tells values.
+abbrev pub SayingsFate : PairOf → Part → List (List LitOf) → List (List LitOf) → List InvSaying → Option InvFate → Type 0
+SayingsFate p part I F [] fate = fate ≡ None
+SayingsFate p part I F (IsNext place ∷ ss) fate = NextFate p part I F place (SayingsFate p (after part) I (opened p (after part) I) ss fate) fate
+SayingsFate p part I F (Says (IsClause lits place) ∷ ss) fate =
+    ClauseFate p part F lits place (SayingsFate p part (I ++ lits ∷ []) F ss fate) (SayingsFate p part I (F ++ lits ∷ []) ss fate) fate
+SayingsFate p part I F (Says (IsDelete lits) ∷ ss) fate = (G : List (List LitOf)) × Deletes F lits G × SayingsFate p part I G ss fate
+SayingsFate p part I F (Says (IsValue l) ∷ ss) fate = SayingsFate p part I F ss fate
+SayingsFate p part I F (Says IsValuesEnd ∷ ss) fate = SayingsFate p part I F ss fate
+SayingsFate p part I F (Says IsUnknown ∷ ss) fate = fate ≡ Some Unknown
+SayingsFate p part I F (Says (IsParseFault f) ∷ ss) fate = fate ≡ Some (Bad (cert_kind f.kind) f.byte)
+SayingsFate p part I F (IsFault f ∷ ss) fate = fate ≡ Some (Bad (fault_kind f.kind) f.byte)
 
--- what the sayings of a stream come to
-abbrev pub Comes : PairOf → List InvSaying → Option InvFate → Type 0
-Comes p ss fate = ComesTo p Head [] [] ss fate
+-- the fate of a stream's sayings
+abbrev pub StreamFate : PairOf → List InvSaying → Option InvFate → Type 0
+StreamFate p ss fate = SayingsFate p Head [] [] ss fate
 
--- what bytes of a stream come to, which are all where it ended
-abbrev pub BytesCome : PairOf → Bool → List ℕ → Option InvFate → Type 0
-BytesCome p ended bytes fate = Comes p (sayings p.formula.vars ended bytes) fate
+-- the fate of a stream's bytes, which are all where it ended
+abbrev pub BytesFate : PairOf → Bool → List ℕ → Option InvFate → Type 0
+BytesFate p ended bytes fate = StreamFate p (sayings p.formula.vars ended bytes) fate
 
--- what bytes come to, `most` of them at most: where more may follow
+-- the fate of bytes, `most` of them at most: where more may follow
 pub record InvFateSoFar (p : PairOf) (bytes : List ℕ) (most : ℕ) (fate : Option InvFate) : Type 0 where
-  pub within : length bytes ≤ most → BytesCome p false bytes fate
+  pub within : length bytes ≤ most → BytesFate p false bytes fate
   pub beyond : most < length bytes →
-      ((x : InvFate) × BytesCome p false (take most bytes) (Some x) × (fate ≡ Some x)) ⊎ (BytesCome p false (take most bytes) None × (fate ≡ Some (Bad TooLong most)))
+      ((x : InvFate) × BytesFate p false (take most bytes) (Some x) × (fate ≡ Some x)) ⊎ (BytesFate p false (take most bytes) None × (fate ≡ Some (Bad TooLong most)))
 
 -- and where they are all
 pub record InvFateOf (p : PairOf) (bytes : List ℕ) (most : ℕ) (fate : InvFate) : Type 0 where
-  pub within : length bytes ≤ most → BytesCome p true bytes (Some fate) ⊎ (BytesCome p true bytes None × (fate ≡ Bad EarlyEnd (length bytes)))
+  pub within : length bytes ≤ most → BytesFate p true bytes (Some fate) ⊎ (BytesFate p true bytes None × (fate ≡ Bad EarlyEnd (length bytes)))
   pub beyond : most < length bytes → InvFateSoFar p bytes most (Some fate)

@@ -1,4 +1,4 @@
-//! What a stream of an invariant comes to.
+//! The fate of a stream of an invariant.
 #![tactic(auto)]
 
 mod laws;

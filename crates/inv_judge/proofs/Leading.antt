@@ -9,8 +9,8 @@ use Rattle.inv_stream.specs.Machine.{InvOf, InvSaying, IsFault, IsNext, Says, fa
 use Rattle.inv_stream.specs.Telling as telling
 use Rattle.inv_stream.specs.Telling.{after, answer, at_end_says, fault_said, is_stopped, said}
 use Rattle.inv_stream.specs.declared.mode.InvFault.{InvFault}
-use Rattle.inv_fate.specs.Fate.{ComesTo, fault_kind}
-use Rattle.inv_judge.specs.Claim.{ClaimOf, ComesBy, HearsPart, HearsSaying, Leads, concluded, with_outcome}
+use Rattle.inv_fate.specs.Fate.{SayingsFate, fault_kind}
+use Rattle.inv_judge.specs.Claim.{ClaimOf, FateFrom, HearsPart, HearsSaying, Leads, concluded, with_outcome}
 use Rattle.inv_judge.specs.Judging.{Heard}
 use Rattle.inv_judge.specs.declared.outcome.InvOutcome.{InvOutcome}
 use Rattle.inv_judge.specs.declared.outcome.InvOutcome.TheVariants as outcome
@@ -25,22 +25,22 @@ no_outcome (Some won) e = cc
 
 -- nothing more
 leads_nothing : (x : ClaimOf) → x.outcome ≡ None → Leads x [] x
-leads_nothing x e = record { pair = refl; fate = λ rest fate h. subst (λ (o : Option InvOutcome). ComesBy x o rest fate) e h }
+leads_nothing x e = record { pair = refl; fate = λ rest fate h. subst (λ (o : Option InvOutcome). FateFrom x o rest fate) e h }
 
 -- sayings, and what comes after them
 pub leads_append : (x y z : ClaimOf) (ss ts : List InvSaying) → Leads x ss y → y.outcome ≡ None → Leads y ts z → Leads x (ss ++ ts) z
 leads_append x y z ss ts h e k = record {
   pair = k.pair ∙ h.pair;
-  fate = λ rest fate g. subst (λ (s : List InvSaying). ComesTo x.pair x.part x.invariant x.present s fate) (sym (append_assoc ss ts rest))
-      (h.fate (ts ++ rest) fate (subst (λ (o : Option InvOutcome). ComesBy y o (ts ++ rest) fate) (sym e) (k.fate rest fate g)));
+  fate = λ rest fate g. subst (λ (s : List InvSaying). SayingsFate x.pair x.part x.invariant x.present s fate) (sym (append_assoc ss ts rest))
+      (h.fate (ts ++ rest) fate (subst (λ (o : Option InvOutcome). FateFrom y o (ts ++ rest) fate) (sym e) (k.fate rest fate g)));
 }
 
 -- after an outcome all else is nothing
 pub leads_ever : (x y : ClaimOf) (ss more : List InvSaying) (o : InvOutcome) → Leads x ss y → y.outcome ≡ Some o → Leads x (ss ++ more) y
 leads_ever x y ss more o h e = record {
   pair = h.pair;
-  fate = λ rest fate g. subst (λ (s : List InvSaying). ComesTo x.pair x.part x.invariant x.present s fate) (sym (append_assoc ss more rest))
-      (h.fate (more ++ rest) fate (subst (λ (k : Option InvOutcome). ComesBy y k (more ++ rest) fate) (sym e) (subst (λ (k : Option InvOutcome). ComesBy y k rest fate) e g)));
+  fate = λ rest fate g. subst (λ (s : List InvSaying). SayingsFate x.pair x.part x.invariant x.present s fate) (sym (append_assoc ss more rest))
+      (h.fate (more ++ rest) fate (subst (λ (k : Option InvOutcome). FateFrom y k (more ++ rest) fate) (sym e) (subst (λ (k : Option InvOutcome). FateFrom y k rest fate) e g)));
 }
 
 heard_one : (x y : ClaimOf) (s : InvSaying) → telling.Hears HearsSaying HearsPart x s y → x.outcome ≡ None → Leads x (s ∷ []) y
@@ -63,8 +63,8 @@ gets_lead (s ∷ ss) x y stopped e (z, h, inr (f, g)) =
 hears_fault : (x y : ClaimOf) (ss : List InvSaying) (f : InvFault) → Leads x ss y → y.outcome ≡ None → Leads x (ss ++ IsFault f ∷ []) (with_outcome y (outcome.Bad (record { kind = fault_kind f.kind; at = f.byte })))
 hears_fault x y ss f h e = record {
   pair = h.pair;
-  fate = λ rest fate g. subst (λ (s : List InvSaying). ComesTo x.pair x.part x.invariant x.present s fate) (sym (append_assoc ss (IsFault f ∷ []) rest))
-      (h.fate (IsFault f ∷ rest) fate (subst (λ (o : Option InvOutcome). ComesBy y o (IsFault f ∷ rest) fate) (sym e) g));
+  fate = λ rest fate g. subst (λ (s : List InvSaying). SayingsFate x.pair x.part x.invariant x.present s fate) (sym (append_assoc ss (IsFault f ∷ []) rest))
+      (h.fate (IsFault f ∷ rest) fate (subst (λ (o : Option InvOutcome). FateFrom y o (IsFault f ∷ rest) fate) (sym e) g));
 }
 
 -- what a call of the parser makes of a claim, with the fault that it answers

@@ -104,7 +104,7 @@ fault_at kind n = record { kind = kind; byte = n }
 two_bytes : (f : InvFault) (kind : InvFaultKind) (n : ℕ) → Some (fault_at kind n) ≡ Some f → Some (fault_at kind (n + 1)) ≡ Some f → ⊥
 two_bytes f kind n one two = let k : n ≡ n + 1 = ap byte_at (one ∙ sym two) in omega arith
 
--- A part's word without a fault: a letter behind it would be at fault there, and with a blank before the letter one byte later.
+-- A part's word without a fault: a letter after it would be at fault there, and with a blank before the letter one byte later.
 module _ (w : InvOf) (f : InvFault) (stay : (more : List ℕ) → fault (after w more) ≡ Some f) where
   never_named : (part : Part) → w.line ≡ Named part → ⊥
   never_named part e = two_bytes f (Parse BadLine) w.parser.taken

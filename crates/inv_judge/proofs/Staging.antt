@@ -15,7 +15,7 @@ use Rattle.drup_check.specs.Checking.{CheckerOf}
 use Rattle.inv_stream.specs.Machine.{InvSaying, IsNext, Says}
 use Rattle.inv_stream.specs.declared.mode.Part.{Part}
 use Rattle.inv_stream.specs.declared.mode.Part.TheVariants.{Head, Inv, Safe, Start, Step}
-use Rattle.inv_fate.specs.Fate.{ComesTo, InvFate, IsOverBits, opened}
+use Rattle.inv_fate.specs.Fate.{SayingsFate, InvFate, IsOverBits, opened}
 use Rattle.inv_judge.specs.Claim.{Adds, ClaimOf, Leads, Passes, begun, is_proof, part_of, part_of_proof, present_of, with_outcome}
 use Rattle.inv_judge.specs.declared.outcome.InvOutcome.{InvOutcome}
 use Rattle.inv_judge.specs.declared.outcome.InvOutcome.TheVariants as outcome
@@ -65,7 +65,7 @@ over_bits_or_not p (d ∷ c) = elim (some_or_none (bit_lits p First d.var)) [
 module _ (p : PairOf) (I : List (List LitOf)) (o : Option InvOutcome) (s t : Stage) (n : o ≡ None) (same : part_of t ≡ part_of s) where
   pub heard_delete : (lits : List LitOf) → Deletes (present_of s) lits (present_of t) → Leads (claim p I o s) (Says (IsDelete lits) ∷ []) (claim p I o t)
   heard_delete lits d = leads_on (claim p I o s) (claim p I o t) (Says (IsDelete lits)) n refl refl
-      (λ rest fate h. (present_of t, d, subst (λ (part : Part). ComesTo p part I (present_of t) rest fate) same h))
+      (λ rest fate h. (present_of t, d, subst (λ (part : Part). SayingsFate p part I (present_of t) rest fate) same h))
 
   module _ (lits : List LitOf) (place : ℕ) (y : ClaimOf) (added : Option Added) (a : Adds (part_of s) (present_of s) lits (present_of t) added) where
     pub heard_head : part_of t ≡ Head → y ≡ with_outcome (claim p I o t) (outcome.Bad (record { kind = BadPart; at = place })) → Leads (claim p I o s) (Says (IsClause lits place) ∷ []) y
@@ -77,7 +77,7 @@ module _ (p : PairOf) (I : List (List LitOf)) (o : Option InvOutcome) (s t : Sta
         subst (λ (z : ClaimOf). Leads (claim p I o s) (Says (IsClause lits place) ∷ []) z) (sym e)
         (leads_on (claim p I o s) (record (claim p I o t) { invariant = I ++ lits ∷ [] }) (Says (IsClause lits place)) n refl refl
         (λ rest fate h. listed p I (present_of s) lits place rest fate (part_of s) (a.none none).0 (λ k. head (same ∙ k)) over
-        (subst (λ (F : List (List LitOf)). ComesTo p (part_of s) (I ++ lits ∷ []) F rest fate) (a.none none).1 (subst (λ (part : Part). ComesTo p part (I ++ lits ∷ []) (present_of t) rest fate) same h))))
+        (subst (λ (F : List (List LitOf)). SayingsFate p (part_of s) (I ++ lits ∷ []) F rest fate) (a.none none).1 (subst (λ (part : Part). SayingsFate p part (I ++ lits ∷ []) (present_of t) rest fate) same h))))
 
     pub heard_unlisted : added ≡ None → (part_of t ≡ Head → ⊥) → (IsOverBits p lits → ⊥) → y ≡ with_outcome (claim p I o t) (outcome.Bad (record { kind = BadLiteral; at = place })) → Leads (claim p I o s) (Says (IsClause lits place) ∷ []) y
     heard_unlisted none head over e = leads_end (claim p I o s) (claim p I o t) y (Says (IsClause lits place)) (outcome.Bad (record { kind = BadLiteral; at = place })) e refl
@@ -96,7 +96,7 @@ module _ (p : PairOf) (I : List (List LitOf)) (o : Option InvOutcome) (s t : Sta
         subst (λ (z : ClaimOf). Leads (claim p I o s) (Says (IsClause lits place) ∷ []) z) (sym e)
         (leads_on (claim p I o s) (claim p I o t) (Says (IsClause lits place)) n refl refl
         (λ rest fate h. joined p I (present_of s) lits place rest fate (part_of s) (a.admitted r).0 (a.admitted r).1 (λ k. some (same ∙ k))
-        (subst (λ (F : List (List LitOf)). ComesTo p (part_of s) I F rest fate) (a.admitted r).2 (subst (λ (part : Part). ComesTo p part I (present_of t) rest fate) same h))))
+        (subst (λ (F : List (List LitOf)). SayingsFate p (part_of s) I F rest fate) (a.admitted r).2 (subst (λ (part : Part). SayingsFate p part I (present_of t) rest fate) same h))))
 
 pub passes_pair : (c : ClaimOf) (F : List (List LitOf)) (t : Frame) (q : Proof) (place : ℕ) (y : ClaimOf) → Passes c F t q place y → y.pair ≡ c.pair
 passes_pair c F t q place y (inl (h, e)) = ap (λ (z : ClaimOf). z.pair) e
@@ -108,7 +108,7 @@ module _ (p : PairOf) (I : List (List LitOf)) (o : Option InvOutcome) (s t : Sta
   Next u = Leads (claim p I o u) (IsNext place ∷ []) y
 
   begins : (part : Part) (F : List (List LitOf)) (q : Proof) → o ≡ None → y ≡ begun (claim p I o t) q
-      → ((rest : List InvSaying) (fate : Option InvFate) → ComesTo p (part_of_proof q) I (opened p (part_of_proof q) I) rest fate → ComesTo p part I F (IsNext place ∷ rest) fate)
+      → ((rest : List InvSaying) (fate : Option InvFate) → SayingsFate p (part_of_proof q) I (opened p (part_of_proof q) I) rest fate → SayingsFate p part I F (IsNext place ∷ rest) fate)
       → Leads (record { pair = p; part = part; invariant = I; present = F; outcome = o }) (IsNext place ∷ []) y
   begins part F q n e come =
       subst (λ (z : ClaimOf). Leads (record { pair = p; part = part; invariant = I; present = F; outcome = o }) (IsNext place ∷ []) z) (sym e)

@@ -1,4 +1,4 @@
--- What bytes came to they come to with more bytes after them.
+-- The fate of bytes is their fate with more bytes after them.
 use Rattle.std.proofs.Common.{◌≡◌, ◌⊎◌, ℕ, ◌+◌, ◌-◌, ◌<◌, ◌≤◌, false, List, [], ◌++◌, length, length-append, take, Option, Some, None, refl, sym, ap, ◌∙◌, subst, inl, inr, arith, append_assoc}
 use Rattle.std.proofs.lemmas.Bool.{cases_lt}
 use Rattle.std.proofs.lemmas.List.{append-nil, take-append-le}
@@ -10,7 +10,7 @@ use Rattle.inv_stream.specs.declared.mode.InvFault.{InvFault}
 use Rattle.inv_stream.specs.declared.mode.Part.TheVariants.{Head}
 use Rattle.inv_stream.proofs.Cutting.{said_append}
 use Rattle.inv_stream.proofs.Faults.{fault_stays}
-use Rattle.inv_fate.specs.Fate.{Bad, BytesCome, Comes, InvFate, InvFateSoFar}
+use Rattle.inv_fate.specs.Fate.{Bad, BytesFate, StreamFate, InvFate, InvFateSoFar}
 use Rattle.cert_judge.specs.declared.stream.CertKind.TheVariants.{TooLong}
 use Rattle.inv_fate.proofs.Fates.{comes_more}
 use Rattle.inv_judge.proofs.Quiet.{quiet_after_fault}
@@ -23,24 +23,24 @@ take_short most bytes piece l = ap (λ (n : ℕ). take n (bytes ++ piece)) (let 
 
 -- where there are more bytes than are taken
 abbrev IsCut : PairOf → ℕ → List ℕ → Option InvFate → Type 0
-IsCut p most front fate = ((y : InvFate) × BytesCome p false front (Some y) × (fate ≡ Some y)) ⊎ (BytesCome p false front None × (fate ≡ Some (Bad TooLong most)))
+IsCut p most front fate = ((y : InvFate) × BytesFate p false front (Some y) × (fate ≡ Some y)) ⊎ (BytesFate p false front None × (fate ≡ Some (Bad TooLong most)))
 
 module _ (p : PairOf) (bytes : List ℕ) (x : InvFate) where
-  comes_on : (more : List ℕ) → BytesCome p false bytes (Some x) → BytesCome p false (bytes ++ more) (Some x)
+  comes_on : (more : List ℕ) → BytesFate p false bytes (Some x) → BytesFate p false (bytes ++ more) (Some x)
   comes_on more h = by (fault (after (fresh p.formula.vars) bytes)) refl
     where
       parted : said (fresh p.formula.vars) (bytes ++ more) ≡ said (fresh p.formula.vars) bytes ++ said (after (fresh p.formula.vars) bytes) more
       parted = said_append (fresh p.formula.vars) bytes more
 
-      by : (o : Option InvFault) → fault (after (fresh p.formula.vars) bytes) ≡ o → BytesCome p false (bytes ++ more) (Some x)
+      by : (o : Option InvFault) → fault (after (fresh p.formula.vars) bytes) ≡ o → BytesFate p false (bytes ++ more) (Some x)
       by None e =
           let last : List InvSaying = fault_said (fault (after (fresh p.formula.vars) (bytes ++ more))) in
-          subst (λ (ss : List InvSaying). Comes p ss (Some x))
+          subst (λ (ss : List InvSaying). StreamFate p ss (Some x))
           (sym (append_assoc (said (fresh p.formula.vars) bytes) (said (after (fresh p.formula.vars) bytes) more) last) ∙ ap (λ (ss : List InvSaying). ss ++ last) (sym parted))
           (comes_more p Head [] [] (said (fresh p.formula.vars) bytes) (said (after (fresh p.formula.vars) bytes) more ++ last) x
-          (subst (λ (ss : List InvSaying). Comes p ss (Some x)) (ap (λ (o : Option InvFault). said (fresh p.formula.vars) bytes ++ fault_said o) e ∙ append-nil (said (fresh p.formula.vars) bytes)) h))
+          (subst (λ (ss : List InvSaying). StreamFate p ss (Some x)) (ap (λ (o : Option InvFault). said (fresh p.formula.vars) bytes ++ fault_said o) e ∙ append-nil (said (fresh p.formula.vars) bytes)) h))
       by (Some f) e =
-          subst (λ (ss : List InvSaying). Comes p ss (Some x))
+          subst (λ (ss : List InvSaying). StreamFate p ss (Some x))
           (ap (λ (o : Option InvFault). said (fresh p.formula.vars) bytes ++ fault_said o) (e ∙ sym (fault_stays p.formula.vars f bytes more e))
           ∙ ap (λ (ss : List InvSaying). ss ++ fault_said (fault (after (fresh p.formula.vars) (bytes ++ more))))
           (sym (parted ∙ ap (λ (ss : List InvSaying). said (fresh p.formula.vars) bytes ++ ss) (quiet_after_fault p.formula.vars f bytes more e) ∙ append-nil (said (fresh p.formula.vars) bytes)))) h
@@ -49,7 +49,7 @@ module _ (p : PairOf) (bytes : List ℕ) (x : InvFate) where
   so_far_stays more most h = record {
     within = λ l. comes_on more (h.within (let k = length-append bytes more in omega arith));
     beyond = λ l. elim (cases_le (length bytes) most) [
-      | inl k ↦ inl (x, subst (λ (all : List ℕ). BytesCome p false all (Some x)) (sym (take_short most bytes more k)) (comes_on (take (most - length bytes) more) (h.within k)), refl)
+      | inl k ↦ inl (x, subst (λ (all : List ℕ). BytesFate p false all (Some x)) (sym (take_short most bytes more k)) (comes_on (take (most - length bytes) more) (h.within k)), refl)
       | inr k ↦ subst (λ (all : List ℕ). IsCut p most all (Some x)) (sym (take-append-le most bytes more (let m : most ≤ length bytes = omega arith in m))) (h.beyond k)
     ];
   }

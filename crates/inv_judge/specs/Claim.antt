@@ -1,4 +1,4 @@
--- What is kept of a stream's sayings, and what they come to from there.
+-- What is kept of a stream's sayings, and the fate of more from there.
 use Rattle.std.specs.Prelude.{◌≡◌, ◌⊎◌, ℕ, Bool, true, false, List, [], ◌∷◌, ◌++◌, Option, Some, None, Result, Ok, Err}
 use Rattle.cnf_form.specs.Cnf.{LitOf, IsAdmitted}
 use Rattle.cert_stream.specs.declared.feeding.Fed.{Fed}
@@ -11,7 +11,7 @@ use Rattle.cert_stream.specs.Telling.{Saying}
 use Rattle.inv_stream.specs.declared.mode.InvFault.{InvFault}
 use Rattle.inv_stream.specs.declared.mode.Part.{Part}
 use Rattle.inv_stream.specs.declared.mode.Part.TheVariants.{Head, Inv, Start, Step, Safe}
-use Rattle.inv_fate.specs.Fate.{AreAdmitted, ComesTo, InvFate, Found, Unknown, Bad, fault_kind, opened}
+use Rattle.inv_fate.specs.Fate.{AreAdmitted, SayingsFate, InvFate, Found, Unknown, Bad, fault_kind, opened}
 use Rattle.cert_judge.specs.declared.stream.CertKind.TheVariants.{NotInvariant}
 use Rattle.inv_judge.specs.declared.stage.Proof.{Proof}
 use Rattle.inv_judge.specs.declared.stage.Proof.TheVariants as proof
@@ -59,15 +59,15 @@ abbrev pub fate_told : Option InvOutcome → Option InvFate
 fate_told None = None
 fate_told (Some o) = Some (fate_of o)
 
--- what more sayings come to, from the claim on
-abbrev pub ComesBy : ClaimOf → Option InvOutcome → List InvSaying → Option InvFate → Type 0
-ComesBy c None ss fate = ComesTo c.pair c.part c.invariant c.present ss fate
-ComesBy c (Some o) ss fate = fate ≡ Some (fate_of o)
+-- the fate of more sayings, from the claim on
+abbrev pub FateFrom : ClaimOf → Option InvOutcome → List InvSaying → Option InvFate → Type 0
+FateFrom c None ss fate = SayingsFate c.pair c.part c.invariant c.present ss fate
+FateFrom c (Some o) ss fate = fate ≡ Some (fate_of o)
 
--- The sayings lead from the one claim to the other: what more comes to from there is what all comes to.
+-- The sayings lead from the one claim to the other: the fate of more sayings from there is the fate of all.
 pub record Leads (old : ClaimOf) (ss : List InvSaying) (new : ClaimOf) : Type 0 where
   pub pair : new.pair ≡ old.pair
-  pub fate : (rest : List InvSaying) (fate : Option InvFate) → ComesBy new new.outcome rest fate → ComesTo old.pair old.part old.invariant old.present (ss ++ rest) fate
+  pub fate : (rest : List InvSaying) (fate : Option InvFate) → FateFrom new new.outcome rest fate → SayingsFate old.pair old.part old.invariant old.present (ss ++ rest) fate
 
 -- a claim without an outcome hears a saying
 abbrev pub Hears : ClaimOf → InvSaying → ClaimOf → Type 0

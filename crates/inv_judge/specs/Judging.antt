@@ -5,7 +5,7 @@ use Rattle.pair_form.specs.Pair.{IsInvariant, PairOf}
 use Rattle.inv_stream.specs.Machine.{InvOf, InvSaying, fault}
 use Rattle.inv_stream.specs.Telling.{after, at_end_says, fault_said, fresh, said}
 use Rattle.cert_judge.specs.declared.stream.CertKind.TheVariants.{EarlyEnd, TooLong}
-use Rattle.inv_fate.specs.Fate.{Comes, ComesTo, InvFate, InvFateOf, InvFateSoFar}
+use Rattle.inv_fate.specs.Fate.{StreamFate, SayingsFate, InvFate, InvFateOf, InvFateSoFar}
 use Rattle.inv_judge.specs.Claim.{ClaimOf, Leads, fate_of, fate_told, with_outcome}
 use Rattle.inv_judge.specs.declared.outcome.InvOutcome.{InvOutcome}
 use Rattle.inv_judge.specs.declared.outcome.InvOutcome.TheVariants.{Found, Bad}
@@ -24,22 +24,22 @@ pair_of j = j.claim.pair
 abbrev pub outcome_of : JudgeOf → Option InvOutcome
 outcome_of j = j.claim.outcome
 
--- The bytes came to nothing yet, and no fault is in them: the parser is what it is after them, and whatever more is said comes from the claim on
--- to what it comes to after all that they say.
-pub record IsAt (w : InvOf) (c : ClaimOf) (bytes : List ℕ) : Type 0 where
+-- The bytes are undecided, and no fault is in them: the parser is what it is after them, and whatever more is said has from the claim on
+-- the fate that it has after all that they say.
+pub record AwaitsMore (w : InvOf) (c : ClaimOf) (bytes : List ℕ) : Type 0 where
   pub parser : w ≡ after (fresh c.pair.formula.vars) bytes
   pub whole : fault w ≡ None
   pub undecided : c.outcome ≡ None
-  pub fate : (rest : List InvSaying) (fate : Option InvFate) → ComesTo c.pair c.part c.invariant c.present rest fate → Comes c.pair (said (fresh c.pair.formula.vars) bytes ++ rest) fate
+  pub fate : (rest : List InvSaying) (fate : Option InvFate) → SayingsFate c.pair c.part c.invariant c.present rest fate → StreamFate c.pair (said (fresh c.pair.formula.vars) bytes ++ rest) fate
 
--- without an outcome, the bytes, `most` at most, came to nothing yet
-abbrev pub StandsBy : JudgeOf → List ℕ → Option InvOutcome → Type 0
-StandsBy j bytes None = IsAt j.parser j.claim bytes × (j.count ≡ length bytes) × (length bytes ≤ j.most)
-StandsBy j bytes (Some o) = InvFateSoFar (pair_of j) bytes j.most (Some (fate_of o))
+-- without an outcome, the bytes, `most` at most, are undecided
+abbrev pub HasTakenWith : JudgeOf → List ℕ → Option InvOutcome → Type 0
+HasTakenWith j bytes None = AwaitsMore j.parser j.claim bytes × (j.count ≡ length bytes) × (length bytes ≤ j.most)
+HasTakenWith j bytes (Some o) = InvFateSoFar (pair_of j) bytes j.most (Some (fate_of o))
 
 -- the judge took the bytes of a stream
-abbrev pub Stands : JudgeOf → List ℕ → Type 0
-Stands j bytes = StandsBy j bytes (outcome_of j)
+abbrev pub HasTaken : JudgeOf → List ℕ → Type 0
+HasTaken j bytes = HasTakenWith j bytes (outcome_of j)
 
 -- the same pair, and the same number of bytes at most
 pub record IsSameJudge (old new : JudgeOf) : Type 0 where
@@ -48,7 +48,7 @@ pub record IsSameJudge (old new : JudgeOf) : Type 0 where
 
 -- The judge took the bytes, and answers their fate so far. Where they are a certificate, some clauses are an invariant of the pair.
 pub record Feeds (old new : JudgeOf) (bytes : List ℕ) (o : Option InvOutcome) : Type 0 where
-  pub stands : Stands new bytes
+  pub stands : HasTaken new bytes
   pub outcome : outcome_of new ≡ o
   pub fate : InvFateSoFar (pair_of old) bytes old.most (fate_told o)
   pub found : o ≡ Some Found → (I : List (List LitOf)) × IsInvariant (pair_of old) I

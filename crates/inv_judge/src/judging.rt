@@ -2,7 +2,7 @@
 
 ghost use Rattle.std.specs.Prelude.{◌≡◌, ◌≤◌, ◌<◌, ◌+◌, ◌^◌, ◌++◌, true, false, [], ℕ, List, length, Option, Some, None, IfOk, OnErr, IsErr, Ok};
 ghost use Rattle.inv_stream.specs.Machine.{taken};
-ghost use Rattle.inv_judge.specs.Judging.{Feeds, Heard, IsOver, IsSameJudge, JudgeOf, Stands, TakesEnd, TakesPiece, outcome_of, pair_of};
+ghost use Rattle.inv_judge.specs.Judging.{Feeds, Heard, IsOver, IsSameJudge, JudgeOf, HasTaken, TakesEnd, TakesPiece, outcome_of, pair_of};
 ghost use Rattle.inv_judge.specs.declared.outcome.InvOutcome.{InvOutcome as OutcomeOf};
 
 use crate::claim::Claim;
@@ -44,7 +44,7 @@ impl InvJudge {
         requires limit { most ≤ 2 ^ 32 }
         ensures pair { pair_of result ≡ pair }
         ensures most { result.most ≡ most }
-        ensures stands { Stands result [] }
+        ensures stands { HasTaken result [] }
         ensures open { outcome_of result ≡ None }
         ensures live { result.wanting ≡ false }
     {
@@ -64,7 +64,7 @@ impl InvJudge {
     /// An outcome is answered again by every later call, and out of memory too.
     pub fn feed(&mut self, piece: &[u8]) -> Result<Option<InvOutcome>, AllocError>
         ensures same { IfOk result (λ _. IsSameJudge self.old self.new) }
-        ensures feeds { (bytes : List ℕ) → Stands self.old bytes → IfOk result (λ o. Feeds self.old self.new (bytes ++ piece.now) o) }
+        ensures feeds { (bytes : List ℕ) → HasTaken self.old bytes → IfOk result (λ o. Feeds self.old self.new (bytes ++ piece.now) o) }
         ensures again { (o : OutcomeOf) → self.old.wanting ≡ false → outcome_of self.old ≡ Some o → (result ≡ Ok (Some o)) × (self.new ≡ self.old) }
         ensures wanting { self.old.wanting ≡ true → IsErr result }
         ensures err { OnErr result (self.new.wanting ≡ true) }
@@ -87,7 +87,7 @@ impl InvJudge {
     /// The stream ends. Answers its fate, and from then on always.
     pub fn end(&mut self) -> Result<InvOutcome, AllocError>
         ensures same { IfOk result (λ _. IsSameJudge self.old self.new) }
-        ensures ends { (bytes : List ℕ) → Stands self.old bytes → IfOk result (λ o. IsOver self.new bytes o) }
+        ensures ends { (bytes : List ℕ) → HasTaken self.old bytes → IfOk result (λ o. IsOver self.new bytes o) }
         ensures again { (o : OutcomeOf) → self.old.wanting ≡ false → outcome_of self.old ≡ Some o → (result ≡ Ok o) × (self.new ≡ self.old) }
         ensures wanting { self.old.wanting ≡ true → IsErr result }
         ensures err { OnErr result (self.new.wanting ≡ true) }

@@ -1,8 +1,8 @@
-// What a stream comes to.
+// Outcomes.
 
 use cert_judge::BadCert;
 
-/// What a stream comes to.
+/// The outcome of judging a stream of an invariant.
 #[derive(Clone, Copy, Debug, PartialEq, Eq)]
 pub enum InvOutcome {
     /// It is a certificate: its clauses are an invariant of the pair.

@@ -2,7 +2,7 @@
 
 ghost use Rattle.std.specs.Prelude.{ℕ, ◌<◌, Bool, List, Some};
 ghost use Rattle.cnf_form.specs.Cnf.{LitOf};
-ghost use Rattle.inv_fate.specs.Fate.{BytesCome, Found};
+ghost use Rattle.inv_fate.specs.Fate.{BytesFate, Found};
 ghost use Rattle.model_cone.specs.Slice.{IsSliceOf};
 ghost use Rattle.model_cone.specs.declared.asked.Asked.{Asked};
 ghost use Rattle.model_core.specs.Claims.{Shows};
@@ -30,7 +30,7 @@ pub fn invariants_of_slices_rule_out_breaks()
 /// Where a stream's bytes are found to be a certificate for the pair of a model's slice, no run of the model, of any length,
 /// breaks an assertion.
 pub fn found_rules_out_breaks()
-    ensures { (m s : ModelOf) (places : List ℕ) (p : PairOf) (ended : Bool) (bytes : List ℕ) → IsModel m → IsModel s → IsSliceOf m Asked.Asserts s → IsPairOf s places p → BytesCome p ended bytes (Some Found)
+    ensures { (m s : ModelOf) (places : List ℕ) (p : PairOf) (ended : Bool) (bytes : List ℕ) → IsModel m → IsModel s → IsSliceOf m Asked.Asserts s → IsPairOf s places p → BytesFate p ended bytes (Some Found)
         → (n : ℕ) (cs : ℕ → Cycle) (a : ℕ) → 0 < n → Shows m n cs a → ⊥ }
 {
     found_is_a_certificate();

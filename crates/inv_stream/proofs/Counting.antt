@@ -5,7 +5,7 @@ use Rattle.cert_stream.specs.Machine.{fault_of}
 use Rattle.cert_stream.specs.Telling as drup
 use Rattle.cert_stream.specs.declared.mode.ParseFault.{ParseFault}
 use Rattle.cert_stream.proofs.Cutting.{after_taken}
-use Rattle.inv_stream.specs.Machine.{InvOf, begins, ends, goes_on, grows, is_clause, is_early, is_space, kept_back, line_behind, passes, placed, reads, taken, turn, turn_by}
+use Rattle.inv_stream.specs.Machine.{InvOf, begins, ends, goes_on, grows, is_clause, is_early, is_space, kept_back, line_after, passes, placed, reads, taken, turn, turn_by}
 use Rattle.inv_stream.specs.Spelling.{grown, is_next, named, place_of}
 use Rattle.inv_stream.specs.declared.mode.InvFault.{InvFault}
 use Rattle.inv_stream.specs.declared.mode.Line.{Line}
@@ -14,7 +14,7 @@ use Rattle.inv_stream.specs.declared.mode.Part.{Part}
 use Rattle.inv_stream.specs.declared.mode.Spell.{Spell}
 use Rattle.inv_stream.specs.declared.mode.Spell.TheVariants.{S}
 
--- so many, or a fault
+-- this many, or a fault
 abbrev pub Counts : ℕ → InvOf → Type 0
 Counts n v = (taken v ≡ n) ⊎ ((f : InvFault) × (v.line ≡ Refused f) × (v.parser.taken ≤ n))
 
@@ -23,12 +23,12 @@ module _ (w : InvOf) where
   handed : (bytes : List ℕ) (line : Line) (n : ℕ) → kept_back line ≡ 0 → w.parser.taken + length bytes ≡ n → Counts n (passes w bytes line).to
   handed bytes line n k e = inl (let t = after_taken w.parser bytes in omega arith)
 
-  behind_none : (f : Option ParseFault) (b : ℕ) → kept_back (line_behind f b) ≡ 0
-  behind_none None b = elim (cases_Bool (eqb b 10)) [ inl t ↦ rw t refl | inr f ↦ rw f refl ]
-  behind_none (Some f) b = refl
+  after_none : (f : Option ParseFault) (b : ℕ) → kept_back (line_after f b) ≡ 0
+  after_none None b = elim (cases_Bool (eqb b 10)) [ inl t ↦ rw t refl | inr f ↦ rw f refl ]
+  after_none (Some f) b = refl
 
   read_counts : (bytes : List ℕ) (b n : ℕ) → w.parser.taken + length bytes ≡ n → Counts n (reads w bytes b).to
-  read_counts bytes b n e = handed bytes (line_behind (fault_of (drup.after w.parser bytes).mode) b) n (behind_none (fault_of (drup.after w.parser bytes).mode) b) e
+  read_counts bytes b n e = handed bytes (line_after (fault_of (drup.after w.parser bytes).mode) b) n (after_none (fault_of (drup.after w.parser bytes).mode) b) e
 
   begin_counts : (b n : ℕ) → w.parser.taken + 1 ≡ n → Counts n (begins w b).to
   begin_counts b n e = elim (cases_Bool (eqb b 105)) [

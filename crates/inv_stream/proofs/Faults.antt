@@ -13,7 +13,7 @@ use Rattle.cert_stream.specs.declared.mode.ParseFault.{ParseFault}
 use Rattle.cert_stream.specs.declared.mode.Part.TheVariants as word
 use Rattle.cert_stream.proofs.Faults.{bad_next}
 use Rattle.cert_stream.proofs.Turning.{parser}
-use Rattle.inv_stream.specs.Machine.{InvOf, IsNext, Says, begins, ends, fault, fault_by, goes_on, grows, is_clause, is_early, is_space, line_behind, parsed, placed, reads, Turn, turn, turn_by}
+use Rattle.inv_stream.specs.Machine.{InvOf, IsNext, Says, begins, ends, fault, fault_by, goes_on, grows, is_clause, is_early, is_space, line_after, parsed, placed, reads, Turn, turn, turn_by}
 use Rattle.inv_stream.specs.Spelling.{grown, is_next, named, place_of}
 use Rattle.inv_stream.specs.Telling.{after, fresh}
 use Rattle.inv_stream.specs.declared.mode.InvFault.{InvFault}
@@ -100,7 +100,7 @@ read_sound w front b = elim (cases_Bool (eqb b 10)) [
         there p [] = refl
         there p (c ∷ front) = there (drup_machine.turn p c).to front
 
-    by : (p : DrupOf) (o : Option ParseFault) → fault_of p.mode ≡ o → (fault_of p.mode ≡ None → Calm p.mode) → IsSound p (line_behind o b)
+    by : (p : DrupOf) (o : Option ParseFault) → fault_of p.mode ≡ o → (fault_of p.mode ≡ None → Calm p.mode) → IsSound p (line_after o b)
     by p None e k = elim (cases_Bool (eqb b 10)) [ inl t ↦ rw t (k e) | inr f ↦ rw f tt ]
     by p (Some f) e k = tt
 
@@ -114,7 +114,7 @@ read_sound w front b = elim (cases_Bool (eqb b 10)) [
     inside : eqb b 10 ≡ false → Sound (reads w (front ++ b ∷ []) b).to
     inside f = there (fault_of (drup.after w.parser (front ++ b ∷ [])).mode)
       where
-        there : (o : Option ParseFault) → IsSound (drup.after w.parser (front ++ b ∷ [])) (line_behind o b)
+        there : (o : Option ParseFault) → IsSound (drup.after w.parser (front ++ b ∷ [])) (line_after o b)
         there None = rw f tt
         there (Some g) = tt
 
@@ -184,7 +184,7 @@ inside_stays w (mode.InList kind part) f b q e = cc
 inside_stays w mode.Closed f b q e = cc
 inside_stays w (mode.Bad g) f b q e =
     let n : (drup.after w.parser (b ∷ [])).mode ≡ mode.Bad g = bad_next g w.parser b q in
-    subst (λ (m : Mode). fault_by (record w { parser = record (drup.after w.parser (b ∷ [])) { mode = m } }) (line_behind (fault_of m) b) ≡ Some f) (sym n) e
+    subst (λ (m : Mode). fault_by (record w { parser = record (drup.after w.parser (b ∷ [])) { mode = m } }) (line_after (fault_of m) b) ≡ Some f) (sym n) e
 inside_stays w mode.Lost f b q e = cc
 
 turn_stays_by : (w : InvOf) (line : Line) (f : InvFault) (b : ℕ) → w.line ≡ line → IsSound w.parser line → fault_by w line ≡ Some f → fault (turn_by w line b).to ≡ Some f

@@ -8,7 +8,7 @@ use Rattle.cert_stream.specs.Telling as drup
 use Rattle.cert_stream.specs.Telling.{Saying}
 use Rattle.cert_stream.specs.Text.{NoFeed}
 use Rattle.cert_stream.specs.declared.mode.ParseFault.{ParseFault}
-use Rattle.inv_stream.specs.Machine.{InvOf, InvSaying, Says, Turn, line_behind, passes, reads, turn}
+use Rattle.inv_stream.specs.Machine.{InvOf, InvSaying, Says, Turn, line_after, passes, reads, turn}
 use Rattle.inv_stream.specs.Taking.{IsChunk, IsLineOf, turns}
 use Rattle.inv_stream.specs.Telling.{after, said}
 use Rattle.inv_stream.specs.declared.mode.Line.{Line}
@@ -18,7 +18,7 @@ use Rattle.inv_stream.specs.declared.mode.Part.{Part}
 abbrev inside : DrupOf → Part → ℕ → InvOf
 inside p part place = record { parser = p; part = part; line = Inside; place = place }
 
-line_on : (f : Option ParseFault) (c : ℕ) → eqb c 10 ≡ false → line_behind f c ≡ Inside
+line_on : (f : Option ParseFault) (c : ℕ) → eqb c 10 ≡ false → line_after f c ≡ Inside
 line_on None c e = rw e refl
 line_on (Some f) c e = refl
 

@@ -4,7 +4,7 @@ use Rattle.cert_stream.specs.Machine.{DrupOf, fault_of}
 use Rattle.cert_stream.specs.Telling as drup
 use Rattle.cert_stream.specs.Telling.{Gets, Saying}
 use Rattle.cert_stream.proofs.Cutting.{gets_append}
-use Rattle.inv_stream.specs.Machine.{InvOf, IsNext, Says, Turn, goes_on, line_behind, passes, reads}
+use Rattle.inv_stream.specs.Machine.{InvOf, IsNext, Says, Turn, goes_on, line_after, passes, reads}
 use Rattle.inv_stream.specs.Taking.{IsTaken}
 use Rattle.inv_stream.specs.Telling.{Hears}
 use Rattle.inv_stream.specs.declared.mode.Line.{Line}
@@ -20,11 +20,11 @@ module _ {A : Type 0} (gets : A → Saying → A → Type 0) (parts : A → ℕ 
     kept = λ h. is ∙ ap (λ (q : DrupOf). let u : InvOf = record w { parser = q; line = line } in u) (kept (sym e ∙ h));
   }
 
-  pub read_on : (w v u : InvOf) (bytes : List ℕ) (b : ℕ) (x y : A) (s : Bool) → IsTaken gets parts stops (passes w bytes Inside) x y v s → u ≡ record v { line = line_behind (fault_of v.parser.mode) b }
+  pub read_on : (w v u : InvOf) (bytes : List ℕ) (b : ℕ) (x y : A) (s : Bool) → IsTaken gets parts stops (passes w bytes Inside) x y v s → u ≡ record v { line = line_after (fault_of v.parser.mode) b }
       → IsTaken gets parts stops (reads w bytes b) x y u s
   read_on w v u bytes b x y s t is = record {
     told = t.told;
-    kept = λ h. is ∙ ap (λ (z : InvOf). let u : InvOf = record z { line = line_behind (fault_of z.parser.mode) b } in u) (t.kept h);
+    kept = λ h. is ∙ ap (λ (z : InvOf). let u : InvOf = record z { line = line_after (fault_of z.parser.mode) b } in u) (t.kept h);
   }
 
   -- a part's word and its line feed: they stop the receiver before the word is told, or then it is told

@@ -47,13 +47,13 @@ abbrev pub refuses : InvOf → InvFaultKind → ℕ → Turn
 refuses w kind byte = record { to = record w { line = Refused (record { kind = kind; byte = byte }) }; says = [] }
 
 -- the line of DRUP text ends with a line feed, if there is no fault
-abbrev pub line_behind : Option ParseFault → ℕ → Line
-line_behind None b = cond (eqb b 10) Start Inside
-line_behind (Some f) b = Inside
+abbrev pub line_after : Option ParseFault → ℕ → Line
+line_after None b = cond (eqb b 10) Start Inside
+line_after (Some f) b = Inside
 
 -- the last of some bytes for such a line
 abbrev pub reads : InvOf → List ℕ → ℕ → Turn
-reads w bytes b = passes w bytes (line_behind (fault_of (drup.after w.parser bytes).mode) b)
+reads w bytes b = passes w bytes (line_after (fault_of (drup.after w.parser bytes).mode) b)
 
 -- clauses and deletions come before no proof
 abbrev pub is_early : Part → ℕ → Bool

@@ -3,9 +3,9 @@
 ghost use Rattle.std.specs.Prelude.{◌≡◌, ◌≢◌, ◌↔◌, ◌⊎◌, ◌+◌, ◌<◌, ◌≤◌, ◌^◌, ◌∷◌, ◌++◌, ◌&&◌, ◌||◌, [], ℕ, Bool, List, true, false, Some, None, cond, eqb, leb, length, map, take, IfOk, IsTrue, OnErr};
 ghost use Rattle.cert_stream.specs.Machine.{fault_of};
 ghost use Rattle.cert_stream.specs.Telling.{Gets, is_stopped};
-ghost use Rattle.cert_stream.specs.Text.{NoFeed, is_blank};
+ghost use Rattle.cert_stream.specs.Text.{is_blank};
 ghost use Rattle.cnf_form.specs.declared.literal.TheConstants.{MAX_VARS};
-ghost use Rattle.inv_stream.specs.Machine.{InvOf, Turn, begins, ends, fault, goes_on, grows, is_clause, is_early, is_space, kept_back, line_behind, passes, placed, reads, refuses, taken, turn, turn_by};
+ghost use Rattle.inv_stream.specs.Machine.{InvOf, Turn, begins, ends, fault, goes_on, grows, is_clause, is_early, is_space, kept_back, line_after, passes, placed, reads, refuses, taken, turn, turn_by};
 ghost use Rattle.inv_stream.specs.Spelling.{grown, named};
 ghost use Rattle.inv_stream.specs.Taking.{IsChunk, IsLineOf, IsTaken, turns};
 ghost use Rattle.inv_stream.specs.Telling.{Hears, at_end_says, fresh};
@@ -14,8 +14,7 @@ ghost use Rattle.inv_stream.specs.declared.mode.Spell.TheVariants.{S};
 
 use crate::feeding::InvReceiver;
 use crate::mode::{InvFault, InvFaultKind, Line, Part, Spell};
-use cert_stream::{DrupParser, Fed, ParseFault, ParseFaultKind};
-use memchr::memchr;
+use cert_stream::{DrupParser, Fed, ParseFault, ParseFaultKind, before_feed};
 use std::alloc::{AllocError, Global};
 use std::marker::Model;
 
@@ -57,8 +56,8 @@ fn is_clause(b: u8) -> bool
 }
 
 // How the reading of a line of DRUP text stands after a byte of it.
-fn line_behind(fault: Option<ParseFault>, b: u8) -> Line
-    ensures { result ≡ line_behind fault b }
+fn line_after(fault: Option<ParseFault>, b: u8) -> Line
+    ensures { result ≡ line_after fault b }
 {
     match fault {
         None if b == b'\n' => Line::Start,
@@ -72,18 +71,6 @@ fn is_stopped(fed: Result<Fed, ParseFault>) -> bool
     match fed {
         Ok(Fed::Stopped) => true,
         Ok(Fed::More) | Err(_) => false,
-    }
-}
-
-// How many bytes stand before the first line feed.
-#[tactic(auto, using(cert_stream::proofs::Passing::no_feed_take))]
-fn before_feed(bytes: &[u8]) -> usize
-    ensures within { result ≤ length bytes.now }
-    ensures none { NoFeed (take result bytes.now) }
-{
-    match memchr(b'\n', bytes) {
-        Some(count) => count,
-        None => bytes.len(),
     }
 }
 
@@ -181,7 +168,7 @@ impl InvParser {
         ensures vars { IfOk result (λ _. R.vars receiver.new ≡ self.new.parser.vars) }
     {
         let stopped = self.pass(bytes, Line::Inside, receiver)?;
-        self.line = line_behind(self.parser.fault(), b);
+        self.line = line_after(self.parser.fault(), b);
         Ok(stopped)
     }
 

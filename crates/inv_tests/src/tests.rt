@@ -1,4 +1,4 @@
-// What streams come to, cut into two pieces at each place.
+// Streams of invariants are judged, cut into two pieces at each place.
 
 ghost use Rattle.std.specs.Prelude.{◌≤◌, ◌^◌};
 
@@ -7,7 +7,7 @@ use inv_judge::{InvJudge, InvOutcome};
 use std::alloc::{AllocError, Global};
 use std::test::Fail;
 
-// The most bytes that are taken, and a pair's file; and after each mark what a stream comes to, and the stream.
+// The most bytes that are taken, and a pair's file; and after each mark what a stream is judged as, and the stream.
 const TABLES: [&str; 11] = [
     // A bit that keeps its 0.
     "1000 c bit 1 2 2\nc start -2\nc next 1\nc bad 2\np cnf 2 1\n1 0\n\
@@ -61,7 +61,7 @@ fn told(alloc: Global, outcome: InvOutcome) -> Result<String, AllocError> {
     }
 }
 
-// What a stream in two pieces comes to. What a piece came to is answered again by each later call.
+// What a stream in two pieces is judged as. The outcome of a piece is answered again by each later call.
 fn outcome_of(judge: &mut InvJudge, front: &[u8], back: &[u8]) -> Result<InvOutcome, Fail> {
     let one = judge.feed(front)?;
     let two = judge.feed(back)?;
@@ -83,7 +83,7 @@ fn judged(alloc: Global, file: &str, most: u64, front: &[u8], back: &[u8]) -> Re
     Ok(text)
 }
 
-// Whether a stream comes to this, however it is cut.
+// Whether a stream is judged as this, however it is cut.
 fn comes_to(
     alloc: Global,
     file: &str,

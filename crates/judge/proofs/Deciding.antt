@@ -1,4 +1,4 @@
--- What a judge of an invariant answers, by what its stream came to.
+-- What a judge of an invariant answers, by the fate of its stream.
 use Rattle.std.proofs.Common.{◌≡◌, ◌⊎◌, ◌∙◌, ℕ, Bool, true, false, List, Some, None, inl, inr, refl, sym, subst}
 use Rattle.std.specs.Prelude.{IfOk, MatchOption, Option, option_map, Result, Ok, Err}
 use Rattle.std.specs.declared.alloc.AllocError.{AllocError}
@@ -9,7 +9,7 @@ use Rattle.cert_judge.specs.declared.stream.Kind.TheVariants.{Invariant}
 use Rattle.cnf_form.specs.Cnf.{LitOf}
 use Rattle.inv_fate.specs.Fate.{InvFate, InvFateOf, InvFateSoFar}
 use Rattle.inv_judge.specs.Claim.{fate_of, fate_told as outcome_told}
-use Rattle.inv_judge.specs.Judging.{Feeds as InvFeeds, IsOver, IsSameJudge, JudgeOf as InvJudgeOf, Stands, outcome_of}
+use Rattle.inv_judge.specs.Judging.{Feeds as InvFeeds, IsOver, IsSameJudge, JudgeOf as InvJudgeOf, HasTaken, outcome_of}
 use Rattle.inv_judge.specs.declared.outcome.InvOutcome.{InvOutcome}
 use Rattle.inv_judge.specs.declared.outcome.InvOutcome.TheVariants as outcome
 use Rattle.pair_form.specs.Pair.{IsInvariant, PairOf}
@@ -56,7 +56,7 @@ never_more (Err e) x reading told = cc
 -- the stream's judge tells the fate of what was taken, or tells it again
 pub ended : (old new : InvJudgeOf) (bytes : List ℕ) (o : InvOutcome) → (old.wanting ≡ true → false ≡ true)
     → ((p : InvOutcome) → old.wanting ≡ false → outcome_of old ≡ Some p → ◌≡◌ {A = Result InvOutcome AllocError} (Ok o) (Ok p) × (new ≡ old))
-    → (Stands old bytes → IsOver new bytes o) → Heard old bytes → IsOver new bytes o
+    → (HasTaken old bytes → IsOver new bytes o) → Heard old bytes → IsOver new bytes o
 ended old new bytes o kept again ends (inl stands) = ends stands
 ended old new bytes o kept again ends (inr (p, over)) =
     let w = again p (not_wanting old.wanting kept) over.outcome in

@@ -1,9 +1,9 @@
--- What streams of an invariant come to.
+-- The fates of streams of an invariant.
 use Rattle.std.proofs.Common.{◌≡◌, ◌⊎◌, ◌<◌, ◌≤◌, ℕ, true, false, List, [], ◌++◌, Some, None, inl, inr, length, take, refl, sym, ◌∙◌, arith}
 use Rattle.std.specs.Prelude.{Option, option_map}
 use Rattle.cert_judge.specs.Fate.{Fate}
 use Rattle.cert_judge.specs.declared.stream.CertKind.TheVariants.{EarlyEnd, TooLong}
-use Rattle.inv_fate.specs.Fate.{Bad, BytesCome, InvFate, InvFateOf, InvFateSoFar}
+use Rattle.inv_fate.specs.Fate.{Bad, BytesFate, InvFate, InvFateOf, InvFateSoFar}
 use Rattle.inv_fate.proofs.Fates.{comes_once, comes_somewhere}
 use Rattle.inv_judge.proofs.Pieces.{ends_come}
 use Rattle.inv_judge.proofs.Staying.{cases_le, so_far_stays}
@@ -44,15 +44,15 @@ proved_within p bytes most (Some y) so_far told = absurd (let z : ◌≡◌ {A =
 
 -- a stream has one fate
 module _ (p : PairOf) (bytes : List ℕ) (most : ℕ) where
-  one_whole : (x y : InvFate) → BytesCome p true bytes (Some x) ⊎ (BytesCome p true bytes None × (x ≡ Bad EarlyEnd (length bytes)))
-      → BytesCome p true bytes (Some y) ⊎ (BytesCome p true bytes None × (y ≡ Bad EarlyEnd (length bytes))) → x ≡ y
+  one_whole : (x y : InvFate) → BytesFate p true bytes (Some x) ⊎ (BytesFate p true bytes None × (x ≡ Bad EarlyEnd (length bytes)))
+      → BytesFate p true bytes (Some y) ⊎ (BytesFate p true bytes None × (y ≡ Bad EarlyEnd (length bytes))) → x ≡ y
   one_whole x y (inl a) (inl b) = let z = comes_once p (sayings p.formula.vars true bytes) (Some x) (Some y) a b in cc
   one_whole x y (inl a) (inr (b, e)) = absurd (let z = comes_once p (sayings p.formula.vars true bytes) (Some x) None a b in cc)
   one_whole x y (inr (a, e)) (inl b) = absurd (let z = comes_once p (sayings p.formula.vars true bytes) None (Some y) a b in cc)
   one_whole x y (inr (a, e)) (inr (b, f)) = e ∙ sym f
 
-  one_cut : (x y : InvFate) → ((v : InvFate) × BytesCome p false (take most bytes) (Some v) × (Some x ≡ Some v)) ⊎ (BytesCome p false (take most bytes) None × (Some x ≡ Some (Bad TooLong most)))
-      → ((v : InvFate) × BytesCome p false (take most bytes) (Some v) × (Some y ≡ Some v)) ⊎ (BytesCome p false (take most bytes) None × (Some y ≡ Some (Bad TooLong most))) → x ≡ y
+  one_cut : (x y : InvFate) → ((v : InvFate) × BytesFate p false (take most bytes) (Some v) × (Some x ≡ Some v)) ⊎ (BytesFate p false (take most bytes) None × (Some x ≡ Some (Bad TooLong most)))
+      → ((v : InvFate) × BytesFate p false (take most bytes) (Some v) × (Some y ≡ Some v)) ⊎ (BytesFate p false (take most bytes) None × (Some y ≡ Some (Bad TooLong most))) → x ≡ y
   one_cut x y (inl (v, a, e)) (inl (w, b, f)) = let z = comes_once p (sayings p.formula.vars false (take most bytes)) (Some v) (Some w) a b in cc
   one_cut x y (inl (v, a, e)) (inr (b, f)) = absurd (let z = comes_once p (sayings p.formula.vars false (take most bytes)) (Some v) None a b in cc)
   one_cut x y (inr (a, e)) (inl (w, b, f)) = absurd (let z = comes_once p (sayings p.formula.vars false (take most bytes)) None (Some w) a b in cc)
@@ -71,11 +71,11 @@ module _ (p : PairOf) (bytes : List ℕ) (most : ℕ) where
     | inr past ↦ comes_somewhere p Head [] [] (sayings p.formula.vars false (take most bytes)) (λ o c. cut past o c)
   ]
     where
-      whole : length bytes ≤ most → (o : Option InvFate) → BytesCome p true bytes o → ⊥
+      whole : length bytes ≤ most → (o : Option InvFate) → BytesFate p true bytes o → ⊥
       whole l None c = never (Bad EarlyEnd (length bytes)) (record { within = λ _. inr (c, refl); beyond = λ past. absurd (omega (arith, l, past)) })
       whole l (Some x) c = never x (record { within = λ _. inl c; beyond = λ past. absurd (omega (arith, l, past)) })
 
-      cut : most < length bytes → (o : Option InvFate) → BytesCome p false (take most bytes) o → ⊥
+      cut : most < length bytes → (o : Option InvFate) → BytesFate p false (take most bytes) o → ⊥
       cut past None c = never (Bad TooLong most) (record {
         within = λ l. absurd (omega (arith, l, past));
         beyond = λ _. record { within = λ l. absurd (omega (arith, l, past)); beyond = λ _. inr (c, refl) };

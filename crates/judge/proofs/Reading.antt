@@ -1,4 +1,4 @@
--- What a judge of a witness answers, by what the witness comes to.
+-- What a judge of a witness answers, by the fate of the witness.
 use Rattle.std.proofs.Common.{◌≡◌, ◌∙◌, ℕ, ◌≤◌, Bool, true, false, ◌&&◌, leb, List, [], ◌++◌, Some, None, length, refl, sym, ap, subst, take, append-nil, arith}
 use Rattle.std.proofs.lemmas.Bool.Decides.{nat_tests}
 use Rattle.std.proofs.lemmas.List.{take_all}
@@ -22,7 +22,7 @@ use Rattle.witness_judge.specs.declared.outcome.Outcome.TheVariants.{Played}
 use Rattle.witness_judge.specs.declared.sought.Sought.{Sought}
 use Rattle.judge.proofs.StreamFates.{map_sought}
 use Rattle.judge.proofs.Witnesses.{holds_whole, rows_chosen}
-use Rattle.judge.specs.Answers.{Finds, FindsRunOf, fate_told, state_behind, state_told}
+use Rattle.judge.specs.Answers.{Finds, FindsRunOf, fate_told, state_after, state_told}
 use Rattle.judge.specs.Finding.{FindingOf}
 use Rattle.judge.specs.Problem.{AskedOf, IsProblem}
 use Rattle.judge.specs.Reading.{Ends, Feeds, HasAnswered, IsForJob, IsReader, ReaderOf}
@@ -39,7 +39,7 @@ at_sought None s P e h = absurd (let n : None ≡ Some s = e in cc)
 at_sought (Some t) s P e h = let same : s ≡ t = cc in subst P same h
 
 -- nothing is told where nothing is seen
-told_none : (r : Result Progress BadCert) (o : Option Outcome) → state_behind r ≡ Reading → fate_told r ≡ outcome_told o → o ≡ None
+told_none : (r : Result Progress BadCert) (o : Option Outcome) → state_after r ≡ Reading → fate_told r ≡ outcome_told o → o ≡ None
 told_none (Ok More) None reading told = refl
 told_none (Ok More) (Some o) reading told = absurd (let e = told in cc)
 told_none (Ok (Done f)) o reading told = absurd (let e = reading in cc)
@@ -53,7 +53,7 @@ IsToldSat (Ok (Done f)) = f.answer ≡ Sat
 IsToldSat (Ok Unknown) = Unit {0}
 IsToldSat (Err b) = Unit {0}
 
--- what a stream comes to that begins with these bytes, is what it comes to with no more
+-- the fate of a stream that begins with these bytes is its fate with no more
 whole_now : (p : AskedOf) (job : JobName) (bytes : List ℕ) (most : ℕ) (fate : Fate) → IsShownSoFar p job bytes most (Some fate) → IsShown p job bytes most fate
 whole_now p job bytes most fate h =
     subst (λ (b : List ℕ). IsShown p job b most fate) (append-nil bytes)
@@ -86,7 +86,7 @@ taken_within j is bytes took = let t = took.taken in let w = took.within in let 
 pub some_one : {X : Type 0} {x y : X} → Some x ≡ Some y → x ≡ y
 some_one e = cc
 
--- how a judge stands after bytes that came to this, or may go on
+-- how a judge stands after bytes that have this fate, or may go on
 module _ (j : ReaderOf) (h : IsProblem j.asked) (is : IsForJob j) (none : j.found ≡ None) where
   -- the run of a witness in the bytes that were taken
   run_told : (ended : Bool) (bytes : List ℕ) (o : Option Outcome) (r : Result Progress BadCert)
@@ -112,7 +112,7 @@ module _ (j : ReaderOf) (h : IsProblem j.asked) (is : IsForJob j) (none : j.foun
   shows_sought ended bytes rows w = (is.sought, w.0, is.is, subst (λ (a : WitnessAskedOf). IsPlayed a w.0 rows) is.asked w.2)
 
   -- what was answered, stays
-  over_told : (bytes : List ℕ) (found : Option FindingOf) (r : Result Progress BadCert) → state_behind r ≡ Over → Finds j.asked j.job r → KeepsFound j.found found r
+  over_told : (bytes : List ℕ) (found : Option FindingOf) (r : Result Progress BadCert) → state_after r ≡ Over → Finds j.asked j.job r → KeepsFound j.found found r
       → IsToldSat r → MatchOption (fate_told r) (Unit {0}) (IsShown j.asked j.job bytes j.most) → FindsRunOf j.asked j.job Witness true bytes j.most r → (j.job ≡ Step → ⊥) → HasAnswered j.asked j.job j.most found bytes
   over_told bytes found (Ok More) over finds keeps sat fate run apart = absurd (let e = over in cc)
   over_told bytes found (Ok (Done f)) over finds keeps sat fate run apart =
@@ -120,7 +120,7 @@ module _ (j : ReaderOf) (h : IsProblem j.asked) (is : IsForJob j) (none : j.foun
   over_told bytes found (Ok Unknown) over finds keeps sat fate run apart = answered_none j.asked j.job j.most found bytes (keeps ∙ none) fate
   over_told bytes found (Err b) over finds keeps sat fate run apart = absurd (let e = over in cc)
 
-  kept_none : (found : Option FindingOf) (r : Result Progress BadCert) → state_behind r ≡ Reading → KeepsFound j.found found r → found ≡ None
+  kept_none : (found : Option FindingOf) (r : Result Progress BadCert) → state_after r ≡ Reading → KeepsFound j.found found r → found ≡ None
   kept_none found (Ok More) reading keeps = keeps ∙ none
   kept_none found (Ok (Done f)) reading keeps = absurd (let e = reading in cc)
   kept_none found (Ok Unknown) reading keeps = absurd (let e = reading in cc)
@@ -149,7 +149,7 @@ module _ (j : ReaderOf) (h : IsProblem j.asked) (is : IsForJob j) (none : j.foun
       played rows e = subst (λ (n : ℕ). IsPlayedBy j.judge.asked false (take n bytes) rows) is.most (f.played rows e)
 
       feeds : (found : Option FindingOf) (r : Result Progress BadCert) → Finds j.asked j.job r → fate_told r ≡ outcome_told o → IsToldRun j.asked o r → KeepsFound j.found found r
-          → Feeds j (after found (state_behind r)) bytes r
+          → Feeds j (after found (state_after r)) bytes r
       feeds found r finds told run keeps = record {
         same = (refl, refl, refl);
         state = refl;
@@ -188,7 +188,7 @@ module _ (j : ReaderOf) (h : IsProblem j.asked) (is : IsForJob j) (none : j.foun
       reads_on (Ok r) found state stood finds fate run keeps =
           let fed = feeds found r finds fate run keeps in
           subst (λ (s : State). IsReader (after found s)) (sym stood) (record {
-            reading = λ reading. (for_job judge found (state_behind r) same, kept_none found r reading keeps, (bytes, (fed.stands reading).taken));
+            reading = λ reading. (for_job judge found (state_after r) same, kept_none found r reading keeps, (bytes, (fed.stands reading).taken));
             over = λ over. (bytes, (fed.over over).answered);
           })
       reads_on (Err e) found state stood finds fate run keeps =
@@ -210,7 +210,7 @@ module _ (j : ReaderOf) (h : IsProblem j.asked) (is : IsForJob j) (none : j.foun
           rw (all, whole) (f.played rows one)
 
       ends : (found : Option FindingOf) (r : Result Progress BadCert) → Finds j.asked j.job r → fate_told r ≡ Some (fate_of o) → IsToldRun j.asked (Some o) r → KeepsFound j.found found r
-          → Ends j (after found (state_behind r)) bytes r
+          → Ends j (after found (state_after r)) bytes r
       ends found r finds told run keeps = record {
         same = (refl, refl, refl);
         state = refl;
@@ -246,7 +246,7 @@ module _ (j : ReaderOf) (h : IsProblem j.asked) (is : IsForJob j) (none : j.foun
             over = λ over. (bytes, (ended.over over).answered);
           })
         where
-          never_reading : (r : Result Progress BadCert) → state_behind r ≡ Reading → fate_told r ≡ Some (fate_of o) → ⊥
+          never_reading : (r : Result Progress BadCert) → state_after r ≡ Reading → fate_told r ≡ Some (fate_of o) → ⊥
           never_reading (Ok More) reading told = absurd (let e = told in cc)
           never_reading (Ok (Done f)) reading told = absurd (let e = reading in cc)
           never_reading (Ok Unknown) reading told = absurd (let e = reading in cc)

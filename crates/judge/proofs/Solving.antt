@@ -16,7 +16,7 @@ use Rattle.sby_terms.specs.declared.names.JobName.{JobName}
 use Rattle.cert_judge.proofs.KindFates.{refuted_so_far}
 use Rattle.cert_judge.specs.Fate.{Fate}
 use Rattle.cert_judge.specs.Kinds.{stream_values}
-use Rattle.cert_judge.specs.Judging.{HasOutcome, IsSameJudge as IsSameStream, StandsBy, bits_of, formula_of, kind_of}
+use Rattle.cert_judge.specs.Judging.{HasOutcome, IsSameJudge as IsSameStream, HasTakenWith, bits_of, formula_of, kind_of}
 use Rattle.cert_judge.specs.Lines.{AreValuesTold}
 use Rattle.cert_judge.specs.Outcomes.{fate_told as outcome_told}
 use Rattle.cert_judge.specs.declared.stream.BadCert.{BadCert}
@@ -38,7 +38,7 @@ job_asked p job f (e, (asked, coded), is) = asked.0
 true_so_far : (old new : OutputOf) (bytes : List ℕ) (o : Option Outcome) → (formula_of new.judge) ≡ (formula_of old.judge) → OutputFeeds old new bytes o → IsTrueOutcome (formula_of old.judge) (bits_of new.judge) o
 true_so_far old new bytes None same f = tt
 true_so_far old new bytes (Some Refuted) same f =
-    let stands : HasOutcome new.judge (given Start bytes) Refuted = subst (λ (o : Option Outcome). StandsBy new.judge (given Start bytes) o) f.outcome f.stands.judge in
+    let stands : HasOutcome new.judge (given Start bytes) Refuted = subst (λ (o : Option Outcome). HasTakenWith new.judge (given Start bytes) o) f.outcome f.stands.judge in
     subst (λ (z : FormulaOf). IsUnsatisfiable z.clauses) same (refuted_so_far (kind_of new.judge) (formula_of new.judge) new.judge.most (given Start bytes) stands.fate)
 true_so_far old new bytes (Some Satisfied) same f = let v = f.values in v.2
 true_so_far old new bytes (Some UnknownOutcome) same f = tt

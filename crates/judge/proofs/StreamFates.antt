@@ -1,4 +1,4 @@
--- What streams of every kind come to.
+-- The fates of streams of every kind.
 use Rattle.std.proofs.Common.{◌≤◌, ℕ, List, ◌++◌, Some, None, length}
 use Rattle.std.specs.Prelude.{MatchOption, Option}
 use Rattle.cert_judge.proofs.KindFates.{stays as cert_stays, within_most as cert_within}
@@ -12,7 +12,7 @@ use Rattle.judge.proofs.Proved.{proved_stays, proved_within}
 use Rattle.judge.specs.Problem.{AskedOf, pair_in}
 use Rattle.judge.specs.Witness.{sought_in, witness_asked}
 use Rattle.witness_judge.proofs.Staying.{stays as witness_stays}
-use Rattle.witness_judge.specs.Fate.{BytesCome, IsWitnessFate, IsWitnessFateSoFar}
+use Rattle.witness_judge.specs.Fate.{BytesFate, IsWitnessFate, IsWitnessFateSoFar}
 use Rattle.witness_judge.specs.declared.sought.Sought.{Sought}
 
 -- what stays of what is sought, stays
@@ -34,4 +34,4 @@ within_most p job Witness file bytes most h = by (sought_in p job) h
   where
     by : (o : Option Sought) → MatchOption o ⊥ (λ s. IsWitnessFateSoFar (witness_asked p s) bytes most None) → length bytes ≤ most
     by None k = absurd k
-    by (Some s) k = within_by (BytesCome (witness_asked p s)) most bytes k
+    by (Some s) k = within_by (BytesFate (witness_asked p s)) most bytes k

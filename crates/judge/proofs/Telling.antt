@@ -7,7 +7,7 @@ use Rattle.cnf_form.specs.Dimacs.{IsDimacs}
 use Rattle.job_terms.specs.Decoding.{values_of}
 use Rattle.job_terms.specs.Encoding.{EncodedOf}
 use Rattle.cert_judge.specs.Kinds.{IsFate, IsFateSoFar, stream_values}
-use Rattle.cert_judge.specs.Judging.{Feeds as StreamFeeds, IsOver, IsSameJudge as IsSameStream, Stands, bits_of, formula_of, kind_of, outcome_of}
+use Rattle.cert_judge.specs.Judging.{Feeds as StreamFeeds, IsOver, IsSameJudge as IsSameStream, HasTaken, bits_of, formula_of, kind_of, outcome_of}
 use Rattle.sby_terms.specs.declared.names.Answer.{Answer}
 use Rattle.sby_terms.specs.declared.names.Answer.TheVariants.{Sat}
 use Rattle.sby_terms.specs.declared.names.JobName.{JobName}
@@ -20,7 +20,7 @@ use Rattle.cert_judge.specs.declared.stream.Outcome.TheVariants.{Refuted, Satisf
 use Rattle.cert_judge.specs.declared.stream.StreamKind.{StreamKind}
 use Rattle.judge.proofs.Problems.{one_formula}
 use Rattle.cert_judge.specs.declared.stream.Kind.TheVariants.{Certificate}
-use Rattle.judge.specs.Answers.{Finds, FindsPlayed, FindsRunOf, IsTrueOutcome, fate_told, state_behind, state_told}
+use Rattle.judge.specs.Answers.{Finds, FindsPlayed, FindsRunOf, IsTrueOutcome, fate_told, state_after, state_told}
 use Rattle.judge.specs.Certificate.{Ends, Feeds, Heard, IsForJob, IsJudge, JudgeOf, StreamOf}
 use Rattle.judge.specs.Played.{IsPlayed}
 use Rattle.judge.specs.Problem.{AskedOf, IsEncodedOf, IsFormulaOf}
@@ -68,7 +68,7 @@ abbrev pub judge_of : AskedOf → JobName → StreamKind → ℕ → StreamOf �
 judge_of p job kind most stream state = record { asked = p; job = job; kind = kind; most = most; stream = stream; state = state }
 
 abbrev behind : JudgeOf → StreamOf → Result Progress BadCert → JudgeOf
-behind j stream r = record j { stream = stream; state = state_behind r }
+behind j stream r = record j { stream = stream; state = state_after r }
 
 -- more of a stream
 module _ (j : JudgeOf) (stream : StreamOf) (bytes : List ℕ) (r : Result Progress BadCert) (finds : Finds j.asked j.job r) (played : FindsPlayed j.asked j.job (values_of (bits_of stream)) r) where
@@ -127,7 +127,7 @@ not_wanting false h = refl
 -- the stream's judge tells the fate of what was taken, or tells it again
 pub ended : (old new : StreamOf) (bytes : List ℕ) (o : Outcome) → (old.wanting ≡ true → false ≡ true)
     → ((p : Outcome) → old.wanting ≡ false → outcome_of old ≡ Some p → ◌≡◌ {A = Result Outcome AllocError} (Ok o) (Ok p) × (new ≡ old))
-    → (Stands old bytes → IsOver new bytes o) → Heard old bytes → IsOver new bytes o
+    → (HasTaken old bytes → IsOver new bytes o) → Heard old bytes → IsOver new bytes o
 ended old new bytes o kept again ends (inl stands) = ends stands
 ended old new bytes o kept again ends (inr (p, over)) =
     let w = again p (not_wanting old.wanting kept) over.outcome in

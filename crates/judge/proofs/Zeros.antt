@@ -12,7 +12,7 @@ use Rattle.design_core.specs.Places.{place_of}
 use Rattle.design_core.specs.Shape.{CellOf, DesignOf, IsDesign}
 use Rattle.design_core.specs.Table.{role_of}
 use Rattle.design_core.specs.declared.table.Role.{Role}
-use Rattle.design_core.specs.declared.table.Role.TheVariants.{Combinational, Register, ResetRegister, Constant, Initial, Source, Statement, Unsupported}
+use Rattle.design_core.specs.declared.table.Role.TheVariants.{Combinational, Register, AsyncResetRegister, Constant, Initial, Source, Statement, Unsupported}
 use Rattle.design_core.proofs.Lists.{Contains-from_place, place-from_Contains}
 use Rattle.design_graph.proofs.Declared.{output-declared}
 use Rattle.design_meaning.specs.Meaning.{IsCell, Valuation, bit_in}
@@ -137,7 +137,7 @@ module _ (d : DesignOf) where
           let b = map-member (λ x. Signal x) (output_of c) s g in
           subst (λ (t : StateBit). state_in v t ≡ state_in w t) b.2 (same.bits b.0 (output-declared d shape i c b.0 cell b.1))
 
-      kept : role_of c.kind ≡ ResetRegister → Contains (map (λ n. Kept i n) (range_with_len 0 (length (output_of c)))) s → state_in v s ≡ state_in w s
+      kept : role_of c.kind ≡ AsyncResetRegister → Contains (map (λ n. Kept i n) (range_with_len 0 (length (output_of c)))) s → state_in v s ≡ state_in w s
       kept role g =
           let n = map-member (λ x. Kept i x) (range_with_len 0 (length (output_of c))) s g in
           let wide : kept_width c ≡ length (output_of c) = ap (λ (r : Role). kept_by_role r (length (output_of c))) role in
@@ -147,7 +147,7 @@ module _ (d : DesignOf) where
       by : (r : Role) → role_of c.kind ≡ r → Contains (state_of_role r (map (λ b. Signal b) (output_of c)) (map (λ n. Kept i n) (range_with_len 0 (length (output_of c))))) s → state_in v s ≡ state_in w s
       by Combinational e g = none g
       by Register e g = shown g
-      by ResetRegister e g = kept e g
+      by AsyncResetRegister e g = kept e g
       by Constant e g = shown g
       by Initial e g = shown g
       by Source e g = none g

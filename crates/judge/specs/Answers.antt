@@ -29,15 +29,15 @@ fate_told (Ok IsUnknown) = Some Unknown
 fate_told (Err b) = Some (Bad b.kind b.at)
 
 -- how a judge stands after an answer
-abbrev pub state_behind : Result Progress BadCert → State
-state_behind (Ok More) = Reading
-state_behind (Ok (Done f)) = Over
-state_behind (Ok IsUnknown) = Over
-state_behind (Err b) = Refused b
+abbrev pub state_after : Result Progress BadCert → State
+state_after (Ok More) = Reading
+state_after (Ok (Done f)) = Over
+state_after (Ok IsUnknown) = Over
+state_after (Err b) = Refused b
 
 -- and where memory ran out
 abbrev pub state_told : Result (Result Progress BadCert) AllocError → State
-state_told (Ok r) = state_behind r
+state_told (Ok r) = state_after r
 state_told (Err e) = Wanting
 
 -- a finding is of the problem and the job

@@ -2,13 +2,13 @@
 use Rattle.std.specs.Prelude.{◌≡◌, ◌⊎◌, ℕ, Bool, true, false, List, MatchOption, Result}
 use Rattle.sby_terms.specs.declared.names.JobName.{JobName}
 use Rattle.cert_judge.specs.Kinds.{IsFate, IsFateSoFar}
-use Rattle.cert_judge.specs.Judging.{IsOver, JudgeOf as StreamJudgeOf, Stands, formula_of, kind_of}
+use Rattle.cert_judge.specs.Judging.{IsOver, JudgeOf as StreamJudgeOf, HasTaken, formula_of, kind_of}
 use Rattle.cert_judge.specs.declared.stream.BadCert.{BadCert}
 use Rattle.cert_judge.specs.declared.stream.Kind.TheVariants.{Certificate}
 use Rattle.cert_judge.specs.declared.stream.Outcome.{Outcome}
 use Rattle.cert_judge.specs.declared.stream.StreamKind.{StreamKind}
 use Rattle.net_unroll.specs.Encoding.{EncodedOf}
-use Rattle.judge.specs.Answers.{Finds, FindsRunOf, fate_told, state_behind}
+use Rattle.judge.specs.Answers.{Finds, FindsRunOf, fate_told, state_after}
 use Rattle.judge.specs.Problem.{AskedOf, IsFormulaFile, IsFormulaOf, IsTold}
 use Rattle.judge.specs.declared.judging.Progress.{Progress}
 use Rattle.judge.specs.declared.judging.State.{State}
@@ -35,17 +35,17 @@ pub record IsForJob (j : JudgeOf) : Type 0 where
 
 -- the bytes were taken; the stream may have ended with them
 abbrev pub Heard : StreamOf → List ℕ → Type 0
-Heard stream bytes = Stands stream bytes ⊎ ((o : Outcome) × IsOver stream bytes o)
+Heard stream bytes = HasTaken stream bytes ⊎ ((o : Outcome) × IsOver stream bytes o)
 
--- some bytes were taken, and more may be, or they came to an outcome
+-- some bytes were taken, and more may be, or they have an outcome
 pub record IsJudge (j : JudgeOf) : Type 0 where
-  pub reading : j.state ≡ Reading → IsForJob j × ((bytes : List ℕ) × Stands j.stream bytes)
+  pub reading : j.state ≡ Reading → IsForJob j × ((bytes : List ℕ) × HasTaken j.stream bytes)
   pub over : j.state ≡ Over → IsForJob j × ((bytes : List ℕ) × Heard j.stream bytes)
 
 -- the judge reads, and has taken these bytes of a stream
 pub record Took (j : JudgeOf) (bytes : List ℕ) : Type 0 where
   pub state : j.state ≡ Reading
-  pub stands : Stands j.stream bytes
+  pub stands : HasTaken j.stream bytes
 
 -- the judge is over, and has taken these bytes
 pub record TookAll (j : JudgeOf) (bytes : List ℕ) : Type 0 where
@@ -63,7 +63,7 @@ FindsRun j ended bytes r = FindsRunOf j.asked j.job (Certificate j.kind) ended b
 pub record Feeds (old new : JudgeOf) (bytes : List ℕ) (r : Result Progress BadCert) : Type 0 where
   pub told : IsTold old.asked old.job
   pub same : IsSameJudge old new
-  pub state : new.state ≡ state_behind r
+  pub state : new.state ≡ state_after r
   pub stands : new.state ≡ Reading → Took new bytes
   pub over : new.state ≡ Over → TookAll new bytes
   pub finds : Finds old.asked old.job r
@@ -74,7 +74,7 @@ pub record Feeds (old new : JudgeOf) (bytes : List ℕ) (r : Result Progress Bad
 pub record Ends (old new : JudgeOf) (bytes : List ℕ) (r : Result Progress BadCert) : Type 0 where
   pub told : IsTold old.asked old.job
   pub same : IsSameJudge old new
-  pub state : new.state ≡ state_behind r
+  pub state : new.state ≡ state_after r
   pub over : new.state ≡ Over → TookAll new bytes
   pub finds : Finds old.asked old.job r
   pub run : FindsRun old true bytes r

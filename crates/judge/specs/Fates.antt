@@ -1,4 +1,4 @@
--- What a stream of any kind comes to, for a job of a problem.
+-- The fate of a stream of any kind, for a job of a problem.
 use Rattle.std.specs.Prelude.{ℕ, Bool, List, Option}
 use Rattle.cert_judge.specs.Fate.{Fate}
 use Rattle.cert_judge.specs.Kinds.{IsFate as IsCertFate, IsFateSoFar as IsCertFateSoFar}

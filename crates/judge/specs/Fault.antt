@@ -32,7 +32,7 @@ pub record IsTooMany (d : DesignOf) (job : JobName) (span : Span) : Type 0 where
   pub before : (earlier : JobName) → IsEarlier earlier job → (e : EncodedOf) × IsEncodedJob d model earlier span e
 
 -- The text reads no design, and is refused so; or the design that it reads has the fault; or that design is flat, and one of its jobs has
--- too many variables, which is so only where the design's cost for each frame comes to more than 2 ^ 27.
+-- too many variables, which is so only where its frames take more than 2 ^ 27 by the design's cost.
 abbrev pub IsProblemFault : ProblemOf → ProblemFault → Type 0
 IsProblemFault p (Read f) = ((d : DesignOf) → Reads p.text d → ⊥) × IsReadFault p.text f.byte f.kind
 IsProblemFault p (Design f) = (d : DesignOf) × Reads p.text d × IsFault d f.kind f.name

@@ -2,10 +2,10 @@
 use Rattle.std.specs.Prelude.{◌≡◌, ◌⊎◌, ℕ, true, false, List, MatchOption, Result}
 use Rattle.cert_judge.specs.declared.stream.BadCert.{BadCert}
 use Rattle.cert_judge.specs.declared.stream.Kind.TheVariants.{Invariant}
-use Rattle.inv_judge.specs.Judging.{IsOver, JudgeOf as InvJudgeOf, Stands, pair_of}
+use Rattle.inv_judge.specs.Judging.{IsOver, JudgeOf as InvJudgeOf, HasTaken, pair_of}
 use Rattle.inv_judge.specs.declared.outcome.InvOutcome.{InvOutcome}
 use Rattle.sby_terms.specs.declared.names.JobName.TheVariants.{Inv}
-use Rattle.judge.specs.Answers.{Finds, FindsRunOf, fate_told, state_behind}
+use Rattle.judge.specs.Answers.{Finds, FindsRunOf, fate_told, state_after}
 use Rattle.judge.specs.Invariant.{IsProved, IsProvedSoFar}
 use Rattle.judge.specs.Problem.{AskedOf, IsJob, pair_in}
 use Rattle.judge.specs.declared.judging.Progress.{Progress}
@@ -27,17 +27,17 @@ pub record IsForJob (r : ReaderOf) : Type 0 where
 
 -- the bytes were taken; the stream may have ended with them
 abbrev pub Heard : InvJudgeOf → List ℕ → Type 0
-Heard judge bytes = Stands judge bytes ⊎ ((o : InvOutcome) × IsOver judge bytes o)
+Heard judge bytes = HasTaken judge bytes ⊎ ((o : InvOutcome) × IsOver judge bytes o)
 
--- some bytes were taken, and more may be, or they came to an outcome
+-- some bytes were taken, and more may be, or they have an outcome
 pub record IsReader (r : ReaderOf) : Type 0 where
-  pub reading : r.state ≡ Reading → IsForJob r × ((bytes : List ℕ) × Stands r.judge bytes)
+  pub reading : r.state ≡ Reading → IsForJob r × ((bytes : List ℕ) × HasTaken r.judge bytes)
   pub over : r.state ≡ Over → IsForJob r × ((bytes : List ℕ) × Heard r.judge bytes)
 
 -- the judge reads, and has taken these bytes of a stream
 pub record Took (r : ReaderOf) (bytes : List ℕ) : Type 0 where
   pub state : r.state ≡ Reading
-  pub stands : Stands r.judge bytes
+  pub stands : HasTaken r.judge bytes
 
 -- the judge is over, and has taken these bytes
 pub record TookAll (r : ReaderOf) (bytes : List ℕ) : Type 0 where
@@ -51,7 +51,7 @@ IsSameReader old new = (new.asked ≡ old.asked) × (new.most ≡ old.most)
 -- The judge took the bytes, and answers their fate so far, whatever pieces they came in.
 pub record Feeds (old new : ReaderOf) (bytes : List ℕ) (r : Result Progress BadCert) : Type 0 where
   pub same : IsSameReader old new
-  pub state : new.state ≡ state_behind r
+  pub state : new.state ≡ state_after r
   pub stands : new.state ≡ Reading → Took new bytes
   pub over : new.state ≡ Over → TookAll new bytes
   pub finds : Finds old.asked Inv r
@@ -61,7 +61,7 @@ pub record Feeds (old new : ReaderOf) (bytes : List ℕ) (r : Result Progress Ba
 -- The judge answers the fate of the bytes taken, as the whole stream.
 pub record Ends (old new : ReaderOf) (bytes : List ℕ) (r : Result Progress BadCert) : Type 0 where
   pub same : IsSameReader old new
-  pub state : new.state ≡ state_behind r
+  pub state : new.state ≡ state_after r
   pub over : new.state ≡ Over → TookAll new bytes
   pub finds : Finds old.asked Inv r
   pub run : FindsRunOf old.asked Inv Invariant true bytes old.most r

@@ -14,7 +14,7 @@ fate_in Found = fate.Found Unsat
 fate_in Unknown = fate.Unknown
 fate_in (Bad kind at) = fate.Bad kind at
 
--- what these bytes of a stream come to as an invariant, `most` of them at most: where more may follow
+-- the fate of these bytes of a stream as an invariant, `most` of them at most: where more may follow
 abbrev pub IsProvedSoFar : AskedOf → JobName → List ℕ → ℕ → Option Fate → Type 0
 IsProvedSoFar p job bytes most told = (job ≡ Inv) × ((x : Option InvFate) × InvFateSoFar (pair_in p) bytes most x × (told ≡ option_map fate_in x))
 

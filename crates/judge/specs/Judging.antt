@@ -5,7 +5,7 @@ use Rattle.sby_terms.specs.declared.names.JobName.TheVariants.{Inv}
 use Rattle.cert_judge.specs.declared.stream.BadCert.{BadCert}
 use Rattle.cert_judge.specs.declared.stream.Kind.{Kind}
 use Rattle.cert_judge.specs.declared.stream.Kind.TheVariants as kind
-use Rattle.judge.specs.Answers.{Finds, FindsRunOf, fate_told, state_behind}
+use Rattle.judge.specs.Answers.{Finds, FindsRunOf, fate_told, state_after}
 use Rattle.judge.specs.Certificate as certificate
 use Rattle.judge.specs.Fates.{IsFate, IsFateSoFar}
 use Rattle.judge.specs.Inductive as invariant
@@ -37,7 +37,7 @@ HasTaken (Certificate c) bytes = certificate.Took c bytes
 HasTaken (Witness w) bytes = witness.Took w bytes
 HasTaken (Invariant i) bytes = invariant.Took i bytes
 
--- these were taken, and came to an answer
+-- these were taken, and have an answer
 abbrev pub HasTakenAll : Reader → List ℕ → Type 0
 HasTakenAll (Certificate c) bytes = certificate.TookAll c bytes
 HasTakenAll (Witness w) bytes = witness.TookAll w bytes
@@ -63,7 +63,7 @@ FindsRun j ended bytes r = FindsRunOf j.asked j.job j.kind ended bytes j.most r
 -- The judge took the bytes, and answers their fate so far for its job's file, whatever pieces they came in.
 pub record Feeds (old new : JudgeOf) (bytes : List ℕ) (r : Result Progress BadCert) : Type 0 where
   pub same : IsSameJudge old new
-  pub state : new.state ≡ state_behind r
+  pub state : new.state ≡ state_after r
   pub stands : new.state ≡ Reading → Took new bytes
   pub over : new.state ≡ Over → TookAll new bytes
   pub finds : Finds old.asked old.job r
@@ -73,7 +73,7 @@ pub record Feeds (old new : JudgeOf) (bytes : List ℕ) (r : Result Progress Bad
 -- The judge answers the fate of the bytes taken, as the whole stream, for its job's file.
 pub record Ends (old new : JudgeOf) (bytes : List ℕ) (r : Result Progress BadCert) : Type 0 where
   pub same : IsSameJudge old new
-  pub state : new.state ≡ state_behind r
+  pub state : new.state ≡ state_after r
   pub over : new.state ≡ Over → TookAll new bytes
   pub finds : Finds old.asked old.job r
   pub run : FindsRun old true bytes r

@@ -13,7 +13,7 @@ use Rattle.sby_terms.specs.declared.names.JobName.TheVariants.{Step}
 use Rattle.judge.specs.Problem.{AskedOf, IsEncodedOf}
 
 -- The values satisfy the formula of the job, and the run is that of the model with the choices that they are decoded to, as the design's
--- wires, free bits and kept rows have it.
+-- wires, free bits and stored rows have it.
 pub record IsPlayed (p : AskedOf) (e : EncodedOf) (x : Assignment) (run : List CycleOf) : Type 0 where
   pub satisfies : Satisfies x e.formula.clauses
   pub rows : IsRunOf p.design run

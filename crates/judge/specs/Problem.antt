@@ -109,7 +109,7 @@ job_size n bits Inv span = made n bits
 job_size n bits (Cover k) span = job_made n (Cover k) span
 
 -- What is promised of an encoded job: its formula can be satisfied exactly where the job can be solved, and has from 1 to 2 ^ 27
--- variables; where some variables are fixed, each of which stands for a bit that the job leaves free, unit propagation comes to a
+-- variables; where some variables are fixed, each of which stands for a bit that the job leaves free, unit propagation ends in a
 -- conflict or fixes all others; over no statement the formula is one variable and the empty clause; and, but for Step, each
 -- assignment tells choices for a run of the model, and one that satisfies the formula those for a run that shows the job's goal.
 pub record IsEncodedJob (d : DesignOf) (m : ModelOf) (job : JobName) (span : Span) (e : EncodedOf) : Type 0 where

@@ -8,7 +8,7 @@ use Rattle.sby_terms.specs.declared.names.Answer.TheVariants.{Sat}
 use Rattle.sby_terms.specs.declared.names.JobName.{JobName}
 use Rattle.witness_judge.specs.Judging.{JudgeOf as WitnessJudgeOf, Took as HasTaken}
 use Rattle.witness_judge.specs.declared.sought.Sought.{Sought}
-use Rattle.judge.specs.Answers.{Finds, FindsRunOf, IsFindingFor, fate_told, state_behind}
+use Rattle.judge.specs.Answers.{Finds, FindsRunOf, IsFindingFor, fate_told, state_after}
 use Rattle.judge.specs.Finding.{FindingOf}
 use Rattle.judge.specs.Problem.{AskedOf}
 use Rattle.judge.specs.Witness.{IsShown, IsShownSoFar, IsWitnessRun, sought_in, witness_asked}
@@ -33,7 +33,7 @@ pub record IsForJob (r : ReaderOf) : Type 0 where
   pub asked : r.judge.asked ≡ witness_asked r.asked sought
   pub most : r.judge.most ≡ r.most
 
--- the bytes came to the finding that was answered, or, without one, to unknown, as the whole stream
+-- the bytes have as the whole stream the finding that was answered, or, without one, are unknown
 abbrev pub HasAnswered : AskedOf → JobName → ℕ → Option FindingOf → List ℕ → Type 0
 HasAnswered p job most None bytes = IsShown p job bytes most Unknown
 HasAnswered p job most (Some f) bytes =
@@ -49,7 +49,7 @@ pub record TookAll (r : ReaderOf) (bytes : List ℕ) : Type 0 where
   pub state : r.state ≡ Over
   pub answered : HasAnswered r.asked r.job r.most r.found bytes
 
--- some bytes were taken, and more may be, or they came to an answer
+-- some bytes were taken, and more may be, or they have an answer
 pub record IsReader (r : ReaderOf) : Type 0 where
   pub reading : r.state ≡ Reading → IsForJob r × (r.found ≡ None) × ((bytes : List ℕ) × HasTaken r.judge bytes)
   pub over : r.state ≡ Over → (bytes : List ℕ) × HasAnswered r.asked r.job r.most r.found bytes
@@ -61,7 +61,7 @@ IsSameReader old new = (new.asked ≡ old.asked) × (new.job ≡ old.job) × (ne
 -- The judge took the bytes, and answers their fate so far, whatever pieces they came in.
 pub record Feeds (old new : ReaderOf) (bytes : List ℕ) (r : Result Progress BadCert) : Type 0 where
   pub same : IsSameReader old new
-  pub state : new.state ≡ state_behind r
+  pub state : new.state ≡ state_after r
   pub stands : new.state ≡ Reading → Took new bytes
   pub over : new.state ≡ Over → TookAll new bytes
   pub finds : Finds old.asked old.job r
@@ -71,7 +71,7 @@ pub record Feeds (old new : ReaderOf) (bytes : List ℕ) (r : Result Progress Ba
 -- The judge answers the fate of the bytes taken, as the whole stream.
 pub record Ends (old new : ReaderOf) (bytes : List ℕ) (r : Result Progress BadCert) : Type 0 where
   pub same : IsSameReader old new
-  pub state : new.state ≡ state_behind r
+  pub state : new.state ≡ state_after r
   pub over : new.state ≡ Over → TookAll new bytes
   pub finds : Finds old.asked old.job r
   pub run : FindsRunOf old.asked old.job Witness true bytes old.most r

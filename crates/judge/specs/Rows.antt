@@ -3,7 +3,7 @@ use Rattle.std.specs.Prelude.{◌≡◌, ℕ, ◌+◌, List, All, drop, length, 
 use Rattle.sby_bits.specs.Rows.{Row}
 use Rattle.design_meaning.specs.Runs.{CycleOf}
 
--- a model's row has the wires' bits, the free bits, the two constants, and the kept rows: this many bits of each
+-- a model's row has the wires' bits, the free bits, the two constants, and the stored rows: this many bits of each
 abbrev pub cycle_in : ℕ → ℕ → ℕ → Row → CycleOf
 cycle_in wires free kept row = record { wires = take wires row; free = take free (drop wires row); kept = take kept (drop (wires + free + 2) row) }
 

@@ -3,7 +3,7 @@ use Rattle.std.specs.Prelude.{◌≡◌, ℕ, Bool, true, false, List, Result, O
 use Rattle.std.specs.declared.alloc.AllocError.{AllocError}
 use Rattle.cert_judge.specs.Judging.{formula_of}
 use Rattle.cert_judge.specs.OutputFate.{IsOutputFate, IsOutputFateSoFar}
-use Rattle.cert_judge.specs.OutputJudging.{OutputOf as OutputJudgeOf, Stands}
+use Rattle.cert_judge.specs.OutputJudging.{OutputOf as OutputJudgeOf, HasTaken}
 use Rattle.cert_judge.specs.Output.{stream_of}
 use Rattle.sby_terms.specs.declared.names.JobName.{JobName}
 use Rattle.cert_judge.specs.declared.stream.BadCert.{BadCert}
@@ -34,12 +34,12 @@ pub record IsForJob (j : SolverOf) : Type 0 where
 
 -- some bytes were taken, and more may be
 abbrev pub IsSolver : SolverOf → Type 0
-IsSolver j = j.reading ≡ true → IsForJob j × ((bytes : List ℕ) × Stands j.output bytes)
+IsSolver j = j.reading ≡ true → IsForJob j × ((bytes : List ℕ) × HasTaken j.output bytes)
 
 -- the judge reads, and has taken these bytes of an output
 pub record Took (j : SolverOf) (bytes : List ℕ) : Type 0 where
   pub reading : j.reading ≡ true
-  pub stands : Stands j.output bytes
+  pub stands : HasTaken j.output bytes
 
 -- nothing but More is told
 abbrev pub is_more : Result Progress BadCert → Bool

@@ -32,7 +32,7 @@ pub record IsBuiltFor (d : DesignOf) (m : ModelOf) : Type 0 where
   pub model : IsModelOf d m
   pub built : (order : List Driver) × IsOrder d order × IsBuilt d order m
 
--- the variables that the first k of these jobs make come to no more than 2 ^ 27 each
+-- each of the first k of these jobs makes no more than 2 ^ 27 variables
 abbrev pub FitUpTo : TaskNetOf → List (Option ℕ) → Span → List JobName → ℕ → Type 0
 FitUpTo t bits span names k = (i : ℕ) (job : JobName) → i < k → slice_get names i ≡ Some job → job_size t.net bits job span ≤ 2 ^ 27
 

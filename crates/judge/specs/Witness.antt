@@ -1,4 +1,4 @@
--- Witnesses of a job: what they come to, and the run that they choose.
+-- Witnesses of a job: their fates, and the run that they choose.
 use Rattle.std.specs.Prelude.{◌≡◌, ℕ, ◌<◌, ◌≤◌, Bool, ◌&&◌, leb, List, length, take, Option, Some, None, MatchOption}
 use Rattle.btor_core.specs.Shape.{BtorOf}
 use Rattle.btor_emit.specs.Emission.{IsEmission}
@@ -44,7 +44,7 @@ abbrev pub IsLinesFile : AskedOf → JobName → List ℕ → Type 0
 IsLinesFile p job bytes =
     MatchOption (sought_in p job) ⊥ (λ s. (m : BtorOf) × (states : List State) × (inputs : List (List ℕ)) × IsEmission p.model (source_rows p.design) s.goal m states inputs × (bytes ≡ text_of m) × IsText bytes m)
 
--- what these bytes of a stream come to as a witness for the job, `most` of them at most: where more may follow
+-- the fate of these bytes of a stream as a witness for the job, `most` of them at most: where more may follow
 abbrev pub IsShownSoFar : AskedOf → JobName → List ℕ → ℕ → Option Fate → Type 0
 IsShownSoFar p job bytes most fate = MatchOption (sought_in p job) ⊥ (λ s. IsWitnessFateSoFar (witness_asked p s) bytes most fate)
 
@@ -52,7 +52,7 @@ IsShownSoFar p job bytes most fate = MatchOption (sought_in p job) ⊥ (λ s. Is
 abbrev pub IsShown : AskedOf → JobName → List ℕ → ℕ → Fate → Type 0
 IsShown p job bytes most fate = MatchOption (sought_in p job) ⊥ (λ s. IsWitnessFate (witness_asked p s) bytes most fate)
 
--- The run is the one that the witness chooses, as the design's wires, free bits and kept rows have it: each cycle is assumed, and the last
+-- The run is the one that the witness chooses, as the design's wires, free bits and stored rows have it: each cycle is assumed, and the last
 -- one is among those where it is sought, and has what is sought.
 pub record IsChosen (p : AskedOf) (s : Sought) (x : WitnessOf) (run : List CycleOf) : Type 0 where
   pub rows : IsRunOf p.design run

@@ -39,7 +39,7 @@ impl<'a> Model for InvariantReader<'a> {
     ghost invariant = { λ a. IsReader (record { asked = a.problem.now; most = a.most; judge = a.judge; state = a.state }) };
 }
 
-// The answer to what a stream came to, if it came to something.
+// The answer to a stream's outcome, if it has one.
 fn tell(
     problem: &Problem,
     outcome: Option<InvOutcome>,

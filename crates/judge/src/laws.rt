@@ -64,7 +64,7 @@ pub fn jobs_of_problems_are_encoded()
     ensures { (p : AskedOf) (job : JobName) (e : EncodedOf) → IsProblem p → IsEncodedOf p job e → IsEncodedJob p.design p.model job (span_of p.problem) e }
 {}
 
-/// A job has too many variables only where its frames come to more than 2^27 by the design's cost.
+/// A job has too many variables only where its frames take more than 2^27 by the design's cost.
 pub fn too_many_only_past_the_cost()
     ensures { (d : DesignOf) (job : JobName) (span : Span) → IsDesign d → IsFlat d → IsSpan span → IsTooMany d job span → 2 ^ 27 < frames job span * cost d }
 {}
@@ -112,7 +112,7 @@ pub fn every_choice_has_a_run_of_the_design()
 {}
 
 /// A job has a free variable only for what the design reads otherwise than as a clock: an input in a cycle, or a state bit in the first. A
-/// kept row is read where some bit of its register's output is.
+/// stored row is read where some bit of its register's output is.
 pub fn free_variables_are_read()
     ensures inputs { (p : AskedOf) (job : JobName) (e : EncodedOf) → IsProblem p → IsEncodedOf p job e → (o : HasOriginsInCone p.model job (span_of p.problem) e)
         → (t : ℕ) (b : SigBit) → Contains (input_bits p.design) b → Contains o.has.origins (Input t (place_of p.design b)) → IsReadOtherwise p.design b }

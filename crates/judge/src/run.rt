@@ -14,7 +14,7 @@ use std::sync::Arc;
 #[derive(Drop)]
 pub struct PlayedRun {
     rows: Arc<Kept, Global>,
-    // How many bits the wires, the free numbers and the kept rows have.
+    // How many bits the wires, the free numbers and the stored rows have.
     wires: u32,
     free: u32,
     kept: u32,
@@ -54,7 +54,7 @@ fn part(
 }
 
 impl PlayedRun {
-    // The run whose rows have this many bits of the wires, of the free numbers, of the two constants, and of the kept rows.
+    // The run whose rows have this many bits of the wires, of the free numbers, of the two constants, and of the stored rows.
     pub(crate) fn new(
         alloc: Global,
         rows: Kept,

@@ -69,7 +69,7 @@ impl<'a> Model for WitnessReader<'a> {
     ghost invariant = { λ a. IsReader (record { asked = a.problem.now; job = a.job; most = a.most; judge = a.judge; found = a.found; state = a.state }) };
 }
 
-// The answer to what a stream came to, if it came to something. A finding is kept, too.
+// The answer to a stream's outcome, if it has one. A finding is kept, too.
 fn tell(
     alloc: Global,
     problem: &Problem,

@@ -89,7 +89,7 @@ fn judged(
     Ok(fed_whole(&mut judge, one, two, three))
 }
 
-// Whether a stream comes to this, wherever one byte of it is a piece of its own.
+// Whether a stream is judged as this, wherever one byte of it is a piece of its own.
 fn comes_to(
     alloc: Global,
     problem: &Problem,
@@ -135,7 +135,7 @@ fn invariant_of(alloc: Global, design: &str) -> Result<Problem, Fail>
     }
 }
 
-// The first of these streams that comes to something else, after how many bytes are taken.
+// Of these streams, each with the most bytes that are taken of it, the first that is judged as something else.
 fn wrong_row<'a>(
     alloc: Global,
     problem: &Problem,

@@ -15,7 +15,7 @@ use Rattle.cert_stream.proofs.Apart.{kept}
 use Rattle.cert_stream.proofs.Faults.{with_mode}
 use Rattle.cert_stream.proofs.Going.{Going}
 use Rattle.cert_stream.proofs.Turning.{turn_blank, turn_visible}
-use Rattle.proof_stream.specs.Text.{is_claim, starts_behind, text_next, text_says}
+use Rattle.proof_stream.specs.Text.{is_claim, next_starts, text_next, text_says}
 use Rattle.proof_stream.specs.Binary.{BinaryOf, binary_told, binary_turn}
 use Rattle.proof_stream.specs.File.{FileOf, InText, InBinary, after, end_fault, end_says, fault, fresh, next, said, says, spoken}
 use Rattle.proof_stream.specs.Lines.{AreProofLines, FileSays}
@@ -157,16 +157,16 @@ shown w Closed s b h c = (tt, tt)
 shown w (Bad f) s b h c = (tt, tt)
 shown w Lost s b h c = (tt, tt)
 
-turned : (w : DrupOf) (m : Mode) (s : Bool) (b : ℕ) → IsPlain m s → (s && is_claim b) ≡ false → Goes (starts_behind s b) (turn (with_mode w m) b)
+turned : (w : DrupOf) (m : Mode) (s : Bool) (b : ℕ) → IsPlain m s → (s && is_claim b) ≡ false → Goes (next_starts s b) (turn (with_mode w m) b)
 turned w m s b h c =
     elim (cases_Bool (eqb b 10)) [
-      | inl t ↦ subst (λ z. Goes (starts_behind s z) (turn (with_mode w m) z)) (sym (eqb-true b 10 t)) (fed w m s h)
+      | inl t ↦ subst (λ z. Goes (next_starts s z) (turn (with_mode w m) z)) (sym (eqb-true b 10 t)) (fed w m s h)
       | inr f ↦ elim (cases_Bool (is_blank b)) [
         | inl t ↦
-            let e : starts_behind s b ≡ s = rw (f, t) (and_true s) in
+            let e : next_starts s b ≡ s = rw (f, t) (and_true s) in
             subst (λ z. Goes z (turn (with_mode w m) b)) (sym e) (subst (Goes s) (sym (turn_blank (with_mode w m) b f t)) (parted w m s h))
         | inr t ↦
-            let e : starts_behind s b ≡ false = rw (f, t) (and_false s) in
+            let e : next_starts s b ≡ false = rw (f, t) (and_false s) in
             subst (λ z. Goes z (turn (with_mode w m) b)) (sym e) (subst (Goes false) (sym (turn_visible (with_mode w m) b f t)) (shown w m s b h c))
       ]
     ]
@@ -181,7 +181,7 @@ turned w m s b h c =
 
 plain_after : (w : DrupOf) (s : Bool) (bytes : List ℕ) → IsPlain w.mode s → Passes s bytes → IsPlain (parser_after w bytes).mode (starts_after s bytes)
 plain_after w s [] h p = h
-plain_after w s (b ∷ bs) h (n, p) = plain_after (turn w b).to (starts_behind s b) bs (turned w w.mode s b h n).0 p
+plain_after w s (b ∷ bs) h (n, p) = plain_after (turn w b).to (next_starts s b) bs (turned w w.mode s b h n).0 p
 
 plain_start : (m : Mode) → IsPlain m true → (m ≡ Start false) ⊎ ((f : ParseFault) × (m ≡ Bad f)) ⊎ (m ≡ Lost)
 plain_start (Start amid) h = inl (ap Start h.0)

@@ -25,10 +25,10 @@ groups_snoc (c ∷ []) b (k, h) t = (k, t)
 groups_snoc (c ∷ d ∷ p) b (k, h) t = (k, groups_snoc (d ∷ p) b h t)
 
 -- the groups after such bytes
-groups_behind : (p : List ℕ) (b : ℕ) (q : List ℕ) → AreMore p → AreGroups (p ++ b ∷ q) → AreGroups (b ∷ q)
-groups_behind [] b q h g = g
-groups_behind (c ∷ []) b q h (k, g) = g
-groups_behind (c ∷ d ∷ p) b q (k, h) (i, g) = groups_behind (d ∷ p) b q h g
+groups_after : (p : List ℕ) (b : ℕ) (q : List ℕ) → AreMore p → AreGroups (p ++ b ∷ q) → AreGroups (b ∷ q)
+groups_after [] b q h g = g
+groups_after (c ∷ []) b q h (k, g) = g
+groups_after (c ∷ d ∷ p) b q (k, h) (i, g) = groups_after (d ∷ p) b q h g
 
 last_alone : (b : ℕ) (q : List ℕ) → leb 128 b ≡ false → AreGroups (b ∷ q) → q ≡ []
 last_alone b [] f g = refl
@@ -51,10 +51,10 @@ value_append : (w : ℕ) (p q : List ℕ) → groups_value w (p ++ q) ≡ groups
 value_append w [] q = omega arith
 value_append w (b ∷ p) q = let k = value_append (128 * w) p q in omega (arith, k)
 
-weighed_behind : (w : ℕ) (p : List ℕ) (b : ℕ) (q : List ℕ) → Weighed w (p ++ b ∷ q) → Weighed (scale w p) (b ∷ q)
-weighed_behind w [] b q h = h
-weighed_behind w (c ∷ []) b q h = h.1
-weighed_behind w (c ∷ d ∷ p) b q h = weighed_behind (128 * w) (d ∷ p) b q h.1
+weighed_after : (w : ℕ) (p : List ℕ) (b : ℕ) (q : List ℕ) → Weighed w (p ++ b ∷ q) → Weighed (scale w p) (b ∷ q)
+weighed_after w [] b q h = h
+weighed_after w (c ∷ []) b q h = h.1
+weighed_after w (c ∷ d ∷ p) b q h = weighed_after (128 * w) (d ∷ p) b q h.1
 
 four : (p : List ℕ) → scale 1 p ≤ 268435456 → length p ≤ 4
 four [] l = omega arith
@@ -137,14 +137,14 @@ module _ (vars : ℕ) where
             omega (arith, value_now, e, f, lit.0.2)
 
         behind : AreGroups (b ∷ rest)
-        behind = groups_behind p b rest s.more lit.0.0
+        behind = groups_after p b rest s.more lit.0.0
 
         then_goes : leb 128 b ≡ true → (rest : List ℕ) → AreGroups (b ∷ rest) → Weighed w (b ∷ rest) → now + groups_value (128 * w) rest ≡ n → may_go_on vars now (128 * w) ≡ true
         then_goes t [] g h e = absurd (let k : true ≡ false = sym t ∙ g in cc)
         then_goes t (c ∷ q) g h e = goes_now vars n lit.1 lit.2 now (128 * w) (c ∷ q) h.0 e
 
         must_go : leb 128 b ≡ true → may_go_on vars now (128 * w) ≡ true
-        must_go t = then_goes t rest behind (subst (λ z. Weighed z (b ∷ rest)) (sym s.weight) (weighed_behind 1 p b rest (weighed (p ++ b ∷ rest) lit.0.1))) value_all
+        must_go t = then_goes t rest behind (subst (λ z. Weighed z (b ∷ rest)) (sym s.weight) (weighed_after 1 p b rest (weighed (p ++ b ∷ rest) lit.0.1))) value_all
 
         must_end : leb 128 b ≡ false → is_literal vars now ≡ true
         must_end f =

@@ -4,7 +4,7 @@ use Rattle.std.proofs.lemmas.Bool.{cases_Bool, eqb-true}
 use Rattle.cert_stream.specs.Text.{AreBlank, is_blank}
 use Rattle.cert_stream.specs.Places.{AreLines}
 use Rattle.cert_stream.proofs.Digits.{both_true}
-use Rattle.proof_stream.specs.Text.{is_claim, starts_behind}
+use Rattle.proof_stream.specs.Text.{is_claim, next_starts}
 use Rattle.proof_stream.specs.Passing.{Passes, starts_after}
 use Rattle.proof_stream.specs.Lines.{HasClaim, IsLineHead}
 use Rattle.proof_stream.proofs.Passing.{starts_snoc}
@@ -15,7 +15,7 @@ split s [] = inl tt
 split s (b ∷ bs) =
     elim (cases_Bool (s && is_claim b)) [
       | inl t ↦ inr ([], b, bs, refl, tt, t)
-      | inr f ↦ elim (split (starts_behind s b) bs) [
+      | inr f ↦ elim (split (next_starts s b) bs) [
         | inl p ↦ inl (f, p)
         | inr (front, c, rest, e, p, t) ↦ inr (b ∷ front, c, rest, ap (λ z. b ∷ z) e, (f, p), t)
       ]
@@ -23,14 +23,14 @@ split s (b ∷ bs) =
 
 starts_append : (s : Bool) (a b : List ℕ) → starts_after s (a ++ b) ≡ starts_after (starts_after s a) b
 starts_append s [] b = refl
-starts_append s (c ∷ a) b = starts_append (starts_behind s c) a b
+starts_append s (c ∷ a) b = starts_append (next_starts s c) a b
 
-pub blank_behind : (b : ℕ) → is_blank b ≡ true → starts_behind true b ≡ true
-blank_behind b t = elim (cases_Bool (eqb b 10)) [ inl e ↦ rw e refl | inr e ↦ rw (e, t) refl ]
+pub blank_next : (b : ℕ) → is_blank b ≡ true → next_starts true b ≡ true
+blank_next b t = elim (cases_Bool (eqb b 10)) [ inl e ↦ rw e refl | inr e ↦ rw (e, t) refl ]
 
 starts_blank : (blanks : List ℕ) → AreBlank blanks → starts_after true blanks ≡ true
 starts_blank [] h = refl
-starts_blank (b ∷ bs) (t, h) = ap (λ z. starts_after z bs) (blank_behind b t) ∙ starts_blank bs h
+starts_blank (b ∷ bs) (t, h) = ap (λ z. starts_after z bs) (blank_next b t) ∙ starts_blank bs h
 
 starts_lines : (lines : List ℕ) → AreLines lines → starts_after true lines ≡ true
 starts_lines lines (inl e) = ap (starts_after true) e
@@ -46,7 +46,7 @@ Begun s front = ((s ≡ true) × AreBlank front) ⊎ ((x : List ℕ) × (y : Lis
 begun : (s : Bool) (front : List ℕ) → starts_after s front ≡ true → Begun s front
 begun s [] h = inl (h, tt)
 begun s (b ∷ bs) h =
-    elim (begun (starts_behind s b) bs h) [
+    elim (begun (next_starts s b) bs h) [
       | inr (x, y, e, k) ↦ inr (b ∷ x, y, ap (λ z. b ∷ z) e, k)
       | inl (e, k) ↦ elim (cases_Bool (eqb b 10)) [
         | inl t ↦ inr ([], bs, ap (λ z. z ∷ bs) (eqb-true b 10 t), k)
@@ -63,7 +63,7 @@ starts_head front h =
 
 passes_here : (s : Bool) (front : List ℕ) (b : ℕ) (rest : List ℕ) → Passes s (front ++ b ∷ rest) → (starts_after s front && is_claim b) ≡ false
 passes_here s [] b rest h = h.0
-passes_here s (c ∷ front) b rest h = passes_here (starts_behind s c) front b rest h.1
+passes_here s (c ∷ front) b rest h = passes_here (next_starts s c) front b rest h.1
 
 pub claim_here : (front : List ℕ) (b : ℕ) → IsLineHead front → is_claim b ≡ true → (starts_after true front && is_claim b) ≡ true
 claim_here front b h t = rw (head_starts front h, t) refl

@@ -6,17 +6,17 @@ use Rattle.cert_stream.specs.Machine.{DrupOf, turn}
 use Rattle.cert_stream.specs.Telling.{Saying, Gets, told_by, after as parser_after, said as parser_said}
 use Rattle.cert_stream.specs.declared.mode.ParseFault.{ParseFault}
 use Rattle.cert_stream.specs.declared.mode.ParseFaultKind.TheVariants.{BadLine}
-use Rattle.proof_stream.specs.Text.{TextOf, is_claim, starts_behind, text_read, text_refused}
+use Rattle.proof_stream.specs.Text.{TextOf, is_claim, next_starts, text_read, text_refused}
 use Rattle.proof_stream.specs.Passing.{Passes, starts_after}
 use Rattle.proof_stream.specs.File.{FileOf, InText, after, said}
 
 pub passes_snoc : (s : Bool) (a : List ℕ) (b : ℕ) → Passes s a → (starts_after s a && is_claim b) ≡ false → Passes s (a ++ b ∷ [])
 passes_snoc s [] b h n = (n, tt)
-passes_snoc s (c ∷ a) b (k, h) n = (k, passes_snoc (starts_behind s c) a b h n)
+passes_snoc s (c ∷ a) b (k, h) n = (k, passes_snoc (next_starts s c) a b h n)
 
-pub starts_snoc : (s : Bool) (a : List ℕ) (b : ℕ) → starts_after s (a ++ b ∷ []) ≡ starts_behind (starts_after s a) b
+pub starts_snoc : (s : Bool) (a : List ℕ) (b : ℕ) → starts_after s (a ++ b ∷ []) ≡ next_starts (starts_after s a) b
 starts_snoc s [] b = refl
-starts_snoc s (c ∷ a) b = starts_snoc (starts_behind s c) a b
+starts_snoc s (c ∷ a) b = starts_snoc (next_starts s c) a b
 
 abbrev pub text : DrupOf → Bool → Option ParseFault → TextOf
 text w s r = record { parser = w; starts = s; refused = r }
@@ -27,14 +27,14 @@ said_passing w s [] rest h = refl
 said_passing w s (b ∷ a) rest (n, h) =
     let told : List Saying = told_by (turn w b).to (turn w b).event in
     ap (λ c. cond c [] told ++ said (InText (cond c (text_refused (text w s None)) (text_read (text w s None) b))) (a ++ rest)) n
-    ∙ (ap (λ z. told ++ z) (said_passing (turn w b).to (starts_behind s b) a rest h)
-    ∙ sym (append_assoc told (parser_said (turn w b).to a) (said (InText (text (parser_after (turn w b).to a) (starts_after (starts_behind s b) a) None)) rest)))
+    ∙ (ap (λ z. told ++ z) (said_passing (turn w b).to (next_starts s b) a rest h)
+    ∙ sym (append_assoc told (parser_said (turn w b).to a) (said (InText (text (parser_after (turn w b).to a) (starts_after (next_starts s b) a) None)) rest)))
 
 pub after_passing : (w : DrupOf) (s : Bool) (a rest : List ℕ) → Passes s a
     → after (InText (text w s None)) (a ++ rest) ≡ after (InText (text (parser_after w a) (starts_after s a) None)) rest
 after_passing w s [] rest h = refl
 after_passing w s (b ∷ a) rest (n, h) =
-    ap (λ c. after (InText (cond c (text_refused (text w s None)) (text_read (text w s None) b))) (a ++ rest)) n ∙ after_passing (turn w b).to (starts_behind s b) a rest h
+    ap (λ c. after (InText (cond c (text_refused (text w s None)) (text_read (text w s None) b))) (a ++ rest)) n ∙ after_passing (turn w b).to (next_starts s b) a rest h
 
 -- nothing more is read after a refused line
 pub said_refused : (w : DrupOf) (s : Bool) (f : ParseFault) (bytes : List ℕ) → said (InText (text w s (Some f))) bytes ≡ []
@@ -86,12 +86,12 @@ module _ (w : DrupOf) (s : Bool) (piece : List ℕ) (n : ℕ) (h : Passes s (tak
 
 -- the next byte passes
 pub pass_step : (s t : Bool) (bytes : List ℕ) (i : ℕ) → i < length bytes → Passes s (take i bytes) → t ≡ starts_after s (take i bytes) → (t && is_claim (get_or bytes i 0)) ≡ false
-    → Passes s (take (i + 1) bytes) × (starts_behind t (get_or bytes i 0) ≡ starts_after s (take (i + 1) bytes))
+    → Passes s (take (i + 1) bytes) × (next_starts t (get_or bytes i 0) ≡ starts_after s (take (i + 1) bytes))
 pass_step s t bytes i l h e n =
     let m : take (i + 1) bytes ≡ take i bytes ++ get_or bytes i 0 ∷ [] = take_more bytes i 0 l in
     let k : (starts_after s (take i bytes) && is_claim (get_or bytes i 0)) ≡ false = subst (λ z. (z && is_claim (get_or bytes i 0)) ≡ false) e n in (
       subst (Passes s) (sym m) (passes_snoc s (take i bytes) (get_or bytes i 0) h k),
-      ap (λ z. starts_behind z (get_or bytes i 0)) e ∙ sym (starts_snoc s (take i bytes) (get_or bytes i 0)) ∙ ap (starts_after s) (sym m),
+      ap (λ z. next_starts z (get_or bytes i 0)) e ∙ sym (starts_snoc s (take i bytes) (get_or bytes i 0)) ∙ ap (starts_after s) (sym m),
     )
 
 -- a text that refused no line takes a piece
@@ -123,16 +123,16 @@ pub gets_same : {A : Type 0} (gets : A → Saying → A → Type 0) (stops : A �
 gets_same gets stops x y ss ts b d e f h = subst (λ k. Gets gets stops x ss y k) f (subst (λ k. Gets gets stops x k y b) (sym e) h)
 
 -- a text that refused a line takes a piece
-said_behind : (w : DrupOf) (s : Bool) (r : Option ParseFault) (piece : List ℕ) → is_some r ≡ true → said (InText (text w s r)) piece ≡ []
-said_behind w s None piece e = absurd (let k = e in cc)
-said_behind w s (Some f) piece e = said_refused w s f piece
+said_refused_text : (w : DrupOf) (s : Bool) (r : Option ParseFault) (piece : List ℕ) → is_some r ≡ true → said (InText (text w s r)) piece ≡ []
+said_refused_text w s None piece e = absurd (let k = e in cc)
+said_refused_text w s (Some f) piece e = said_refused w s f piece
 
-after_behind : (w : DrupOf) (s : Bool) (r : Option ParseFault) (piece : List ℕ) → is_some r ≡ true → after (InText (text w s r)) piece ≡ InText (text w s r)
-after_behind w s None piece e = absurd (let k = e in cc)
-after_behind w s (Some f) piece e = after_refused w s f piece
+after_refused_text : (w : DrupOf) (s : Bool) (r : Option ParseFault) (piece : List ℕ) → is_some r ≡ true → after (InText (text w s r)) piece ≡ InText (text w s r)
+after_refused_text w s None piece e = absurd (let k = e in cc)
+after_refused_text w s (Some f) piece e = after_refused w s f piece
 
 pub refused_told : {A : Type 0} (gets : A → Saying → A → Type 0) (stops : A → Bool) (x : A) (t : TextOf) (piece : List ℕ) → is_some t.refused ≡ true → Gets gets stops x (said (InText t) piece) x false
-refused_told gets stops x t piece e = gets_same gets stops x x (said (InText t) piece) [] false false (said_behind t.parser t.starts t.refused piece e) refl (refl, refl)
+refused_told gets stops x t piece e = gets_same gets stops x x (said (InText t) piece) [] false false (said_refused_text t.parser t.starts t.refused piece e) refl (refl, refl)
 
 pub refused_kept : (t : TextOf) (piece : List ℕ) → is_some t.refused ≡ true → (let r : FileOf = InText t in r) ≡ after (InText t) piece
-refused_kept t piece e = sym (after_behind t.parser t.starts t.refused piece e)
+refused_kept t piece e = sym (after_refused_text t.parser t.starts t.refused piece e)

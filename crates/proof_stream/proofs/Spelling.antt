@@ -9,7 +9,7 @@ use Rattle.cert_stream.specs.Stream.{bad}
 use Rattle.cert_stream.specs.Telling.{Saying}
 use Rattle.cert_stream.specs.declared.mode.ParseFaultKind.TheVariants.{BadLine}
 use Rattle.cert_stream.proofs.Wording.{has_word, words_blank, words_visible}
-use Rattle.proof_stream.specs.Text.{is_claim, starts_behind}
+use Rattle.proof_stream.specs.Text.{is_claim, next_starts}
 use Rattle.proof_stream.specs.Passing.{Passes, starts_after}
 use Rattle.proof_stream.specs.Numbers.{Goes, Whole, Unfit, group_next, groups_read, is_literal, may_go_on, number, numbers_from, seven, with_group}
 use Rattle.proof_stream.specs.Lines.{LineOf, numbers_say}
@@ -17,7 +17,7 @@ use Rattle.proof_stream.specs.Spelling.{AreGroups, groups_value, letter}
 use Rattle.proof_stream.specs.declared.spot.LineKind.{LineKind}
 use Rattle.proof_stream.specs.declared.spot.LineKind.TheVariants.{Clause, Deletion}
 use Rattle.proof_stream.proofs.Binaries.{step_by}
-use Rattle.proof_stream.proofs.Heads.{blank_behind}
+use Rattle.proof_stream.proofs.Heads.{blank_next}
 
 -- numbers, group by group
 pub numbers_groups : (place : ℕ) (p front rest : List ℕ) → AreGroups front → (at : ℕ) × (numbers_from place p (front ++ rest) ≡ number place (p ++ front) true ∷ numbers_from at [] rest)
@@ -125,7 +125,7 @@ module _ (vars total : ℕ) (ended : Bool) where
 
 passes_false : (text : List ℕ) → NoFeed text → Passes false text
 passes_false [] h = tt
-passes_false (b ∷ bs) (h, hs) = let e : starts_behind false b ≡ false = rw h refl in (refl, subst (λ z. Passes z bs) (sym e) (passes_false bs hs))
+passes_false (b ∷ bs) (h, hs) = let e : next_starts false b ≡ false = rw h refl in (refl, subst (λ z. Passes z bs) (sym e) (passes_false bs hs))
 
 blank_claim : (b : ℕ) → is_blank b ≡ true → is_claim b ≡ false
 blank_claim b t =
@@ -141,19 +141,19 @@ pub passes_text : (at : ℕ) (text : List ℕ) (first : Word) (others : List Wor
 passes_text at [] first others h e c = tt
 passes_text at (b ∷ bs) first others (h, hs) e c =
     elim (cases_Bool (is_blank b)) [
-      | inl t ↦ (blank_claim b t, subst (λ z. Passes z bs) (sym (blank_behind b t)) (passes_text (at + 1) bs first others hs (sym (words_blank true at [] b bs t) ∙ e) c))
+      | inl t ↦ (blank_claim b t, subst (λ z. Passes z bs) (sym (blank_next b t)) (passes_text (at + 1) bs first others hs (sym (words_blank true at [] b bs t) ∙ e) c))
       | inr f ↦
           let w = has_word true (at + 1) b [] bs in
           let k : w.word ∷ w.others ≡ first ∷ others = sym w.are ∙ sym (words_visible true at [] b bs f) ∙ e in
           let i : w.word ≡ first = cc in
           let x : is_claim b ≡ false = ap (λ z. is_claim (slice_index z 0)) (sym w.text) ∙ ap (λ (z : Word). is_claim (slice_index z.text 0)) i ∙ c in
-          let s : starts_behind true b ≡ false = rw (h, f) refl in
+          let s : next_starts true b ≡ false = rw (h, f) refl in
           (x, subst (λ z. Passes z bs) (sym s) (passes_false bs hs))
     ]
 
 pub passes_append : (s : Bool) (a b : List ℕ) → Passes s a → Passes (starts_after s a) b → Passes s (a ++ b)
 passes_append s [] b h k = k
-passes_append s (c ∷ a) b (n, h) k = (n, passes_append (starts_behind s c) a b h k)
+passes_append s (c ∷ a) b (n, h) k = (n, passes_append (next_starts s c) a b h k)
 
 pub feed_passes : (s : Bool) (rest : List ℕ) → Passes true rest → Passes s (10 ∷ rest)
 feed_passes true rest h = (refl, h)

@@ -17,8 +17,8 @@ abbrev pub is_claim : ℕ → Bool
 is_claim b = eqb b 115 || eqb b 118
 
 -- whether the line has no visible byte after this one
-abbrev pub starts_behind : Bool → ℕ → Bool
-starts_behind starts b = eqb b 10 || (starts && is_blank b)
+abbrev pub next_starts : Bool → ℕ → Bool
+next_starts starts b = eqb b 10 || (starts && is_blank b)
 
 abbrev pub text_fresh : ℕ → TextOf
 text_fresh vars = record { parser = fresh vars; starts = true; refused = None }
@@ -29,7 +29,7 @@ text_refused t = record t { refused = Some (record { kind = BadLine; byte = t.pa
 
 -- another byte is read as a stream's
 abbrev pub text_read : TextOf → ℕ → TextOf
-text_read t b = record { parser = (turn t.parser b).to; starts = starts_behind t.starts b; refused = None }
+text_read t b = record { parser = (turn t.parser b).to; starts = next_starts t.starts b; refused = None }
 
 abbrev pub text_next_by : Option ParseFault → TextOf → ℕ → TextOf
 text_next_by None t b = cond (t.starts && is_claim b) (text_refused t) (text_read t b)

@@ -85,7 +85,7 @@ fn fits(vars: u32, n: u64, weight: u64, goes_on: bool) -> bool
     }
 }
 
-// The value with one group more.
+// The value with one more group.
 #[tactic(auto, using(crate::proofs::Bounds::group_bound))]
 fn with_group(value: u64, weight: u64, b: u8) -> u64
     requires value { value ≤ 2 ^ 29 }

@@ -4,7 +4,7 @@ ghost use Rattle.std.specs.Prelude.{◌≡◌, ℕ, ◌+◌, ◌<◌, ◌≤◌,
 ghost use Rattle.cert_stream.specs.Telling.{Gets, answer, is_stopped};
 ghost use Rattle.cert_stream.specs.Text.{is_blank};
 ghost use Rattle.cnf_form.specs.declared.literal.TheConstants.{MAX_VARS};
-ghost use Rattle.proof_stream.specs.Text.{TextOf, is_claim, starts_behind, text_fault, text_fresh};
+ghost use Rattle.proof_stream.specs.Text.{TextOf, is_claim, next_starts, text_fault, text_fresh};
 ghost use Rattle.proof_stream.specs.File.{FileOf, InText, after, fault, said};
 ghost use Rattle.proof_stream.specs.Passing.{Passes, starts_after};
 
@@ -37,8 +37,8 @@ fn is_claim(b: u8) -> bool
     b == b's' || b == b'v'
 }
 
-fn starts_behind(starts: bool, b: u8) -> bool
-    ensures { result ≡ starts_behind starts b }
+fn next_starts(starts: bool, b: u8) -> bool
+    ensures { result ≡ next_starts starts b }
 {
     b == b'\n' || starts && (b == b' ' || b == b'\t' || b == b'\r')
 }
@@ -72,7 +72,7 @@ fn pass(starts: &mut bool, bytes: &[u8]) -> usize
         if claims(*starts, b) {
             return i;
         }
-        *starts = starts_behind(*starts, b);
+        *starts = next_starts(*starts, b);
         i += 1;
     }
     i

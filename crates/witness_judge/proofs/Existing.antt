@@ -16,8 +16,8 @@ use Rattle.btor_witness.specs.declared.spot.Seen.TheVariants.{More, Whole, Unkno
 use Rattle.witness_judge.proofs.Chosen.{choices_fit}
 use Rattle.witness_judge.proofs.Finding.{length_choices}
 use Rattle.witness_judge.specs.Choosing.{AskedOf, IsAsked, choices_for, shape_of}
-use Rattle.witness_judge.specs.Fate.{BytesCome}
-use Rattle.witness_judge.specs.Playing.{AreAssumed, IsFirstUnassumed, IsReached, PlaysTo, RunComesTo}
+use Rattle.witness_judge.specs.Fate.{BytesFate}
+use Rattle.witness_judge.specs.Playing.{AreAssumed, IsFirstUnassumed, IsReached, PlaysTo, RunFate}
 
 module _ (a : AskedOf) (n : ℕ) (cs : ℕ → Cycle) where
   -- where never cycle is the first that isn't assumed, all are
@@ -35,7 +35,7 @@ module _ (a : AskedOf) (n : ℕ) (cs : ℕ → Cycle) where
             ]);
       }))
 
-  run_somewhere : (k : ℕ) → ((fate : Fate) → RunComesTo a.model a.sought n cs k fate → ⊥) → ⊥
+  run_somewhere : (k : ℕ) → ((fate : Fate) → RunFate a.model a.sought n cs k fate → ⊥) → ⊥
   run_somewhere k never =
       assumed_somewhere n (omega arith) (λ t first. never (Bad NotPlaying t) (inl (t, first, refl))) (λ all.
       let unreached : IsReached a.model a.sought n cs k → ⊥ = λ r. never (Found Sat) (inr (inl (all, r, refl))) in
@@ -55,24 +55,24 @@ module _ (a : AskedOf) (model : IsModel a.model) (asked : IsAsked a) where
       ]
 
   module _ (seen : (bytes : List ℕ) → (s : Seen) × IsSeen (shape_of a) bytes s) (fate : (bytes : List ℕ) → (s : Seen) × IsFate (shape_of a) bytes s) where
-    seen_somewhere : (bytes : List ℕ) (s : Seen) → IsSeen (shape_of a) bytes s → ((x : Option Fate) → BytesCome a false bytes x → ⊥) → ⊥
+    seen_somewhere : (bytes : List ℕ) (s : Seen) → IsSeen (shape_of a) bytes s → ((x : Option Fate) → BytesFate a false bytes x → ⊥) → ⊥
     seen_somewhere bytes More is never = never None (More, is, refl)
     seen_somewhere bytes Whole (x, h) never = let w = h.3 in played_somewhere x w.some w.fits (λ fate plays. never (Some fate) (Whole, (x, h), (x, fate, h, plays, refl)))
     seen_somewhere bytes Unknown is never = absurd is
     seen_somewhere bytes (EarlyEnd n) is never = absurd is
     seen_somewhere bytes (BadWitness n) is never = never (Some (Bad BadWitnessKind n)) (BadWitness n, is, refl)
 
-    whole_somewhere : (bytes : List ℕ) (x : WitnessOf) → Holds (shape_of a) bytes x ⊎ EndsWith (shape_of a) bytes x → ((x : Option Fate) → BytesCome a true bytes x → ⊥) → ⊥
+    whole_somewhere : (bytes : List ℕ) (x : WitnessOf) → Holds (shape_of a) bytes x ⊎ EndsWith (shape_of a) bytes x → ((x : Option Fate) → BytesFate a true bytes x → ⊥) → ⊥
     whole_somewhere bytes x (inl h) never = let w = h.3 in played_somewhere x w.some w.fits (λ fate plays. never (Some fate) (Whole, (x, inl h), (x, fate, inl h, plays, refl)))
     whole_somewhere bytes x (inr h) never = let w = h.4 in played_somewhere x w.some w.fits (λ fate plays. never (Some fate) (Whole, (x, inr h), (x, fate, inr h, plays, refl)))
 
-    fate_somewhere : (bytes : List ℕ) (s : Seen) → IsFate (shape_of a) bytes s → ((x : Option Fate) → BytesCome a true bytes x → ⊥) → ⊥
+    fate_somewhere : (bytes : List ℕ) (s : Seen) → IsFate (shape_of a) bytes s → ((x : Option Fate) → BytesFate a true bytes x → ⊥) → ⊥
     fate_somewhere bytes More is never = absurd is
     fate_somewhere bytes Whole (x, h) never = whole_somewhere bytes x h never
     fate_somewhere bytes Unknown is never = never (Some UnknownFate) (Unknown, is, refl)
     fate_somewhere bytes (EarlyEnd n) is never = never (Some (Bad EarlyEndKind n)) (EarlyEnd n, is, refl)
     fate_somewhere bytes (BadWitness n) is never = never (Some (Bad BadWitnessKind n)) (BadWitness n, is, refl)
 
-    pub come_somewhere : (ended : Bool) (bytes : List ℕ) → ((x : Option Fate) → BytesCome a ended bytes x → ⊥) → ⊥
+    pub come_somewhere : (ended : Bool) (bytes : List ℕ) → ((x : Option Fate) → BytesFate a ended bytes x → ⊥) → ⊥
     come_somewhere false bytes never = let s = seen bytes in seen_somewhere bytes s.0 s.1 never
     come_somewhere true bytes never = let s = fate bytes in fate_somewhere bytes s.0 s.1 never

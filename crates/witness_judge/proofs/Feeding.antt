@@ -16,7 +16,7 @@ use Rattle.btor_witness.specs.declared.spot.Seen.{Seen}
 use Rattle.btor_witness.specs.declared.spot.Seen.TheVariants.{More, Whole, Unknown, EarlyEnd, BadWitness}
 use Rattle.btor_witness.proofs.Cutting.{stands_append}
 use Rattle.witness_judge.specs.Choosing.{AskedOf, shape_of}
-use Rattle.witness_judge.specs.Fate.{BytesCome, IsWitnessFate, IsWitnessFateSoFar}
+use Rattle.witness_judge.specs.Fate.{BytesFate, IsWitnessFate, IsWitnessFateSoFar}
 use Rattle.witness_judge.specs.Judging.{Ends, Feeds, IsPlayedBy, JudgeOf, Took, fate_of}
 use Rattle.witness_judge.specs.Settling.{HasChosen, Settles}
 use Rattle.witness_judge.specs.declared.outcome.Outcome.{Outcome}
@@ -37,21 +37,21 @@ cut_is bytes piece most taken count n l e =
 
 module _ (a : AskedOf) (all : List ℕ) (most : ℕ) where
   -- the first bytes have a fate
-  pub fate_in : (fate : Fate) → BytesCome a false (take most all) (Some fate) → IsWitnessFateSoFar a all most (Some fate)
+  pub fate_in : (fate : Fate) → BytesFate a false (take most all) (Some fate) → IsWitnessFateSoFar a all most (Some fate)
   fate_in fate h = record {
-    within = λ l. subst (λ (bs : List ℕ). BytesCome a false bs (Some fate)) (take_all most all l) h;
+    within = λ l. subst (λ (bs : List ℕ). BytesFate a false bs (Some fate)) (take_all most all l) h;
     beyond = λ _. inl (fate, h, refl);
   }
 
   -- they have none, and are all
-  pub no_fate : length all ≤ most → BytesCome a false (take most all) None → IsWitnessFateSoFar a all most None
+  pub no_fate : length all ≤ most → BytesFate a false (take most all) None → IsWitnessFateSoFar a all most None
   no_fate l h = record {
-    within = λ _. subst (λ (bs : List ℕ). BytesCome a false bs None) (take_all most all l) h;
+    within = λ _. subst (λ (bs : List ℕ). BytesFate a false bs None) (take_all most all l) h;
     beyond = λ k. absurd (omega arith);
   }
 
   -- they have none, and there are more
-  pub long_fate : most < length all → BytesCome a false (take most all) None → IsWitnessFateSoFar a all most (Some (BadFate TooLong most))
+  pub long_fate : most < length all → BytesFate a false (take most all) None → IsWitnessFateSoFar a all most (Some (BadFate TooLong most))
   long_fate l h = record { within = λ k. absurd (omega arith); beyond = λ _. inr (h, refl) }
 
 module _ (a : AskedOf) (w : WitnessesOf) (bytes : List ℕ) where
@@ -71,9 +71,9 @@ module _ (a : AskedOf) (w : WitnessesOf) (bytes : List ℕ) where
   pub some_chosen_at_end : (seen : Seen) → IsFate (shape_of a) bytes seen → ((x : WitnessOf) → Holds (shape_of a) bytes x ⊎ EndsWith (shape_of a) bytes x → HasChosen a w x) → seen ≡ Whole → (x : WitnessOf) × HasChosen a w x
   some_chosen_at_end seen h chosen e = let x = subst (λ (s : Seen). IsFate (shape_of a) bytes s) e h in (x.0, chosen x.0 x.1)
 
-  -- an outcome is what the bytes come to
+  -- an outcome is the fate of the bytes
   abbrev Told : Bool → Outcome → Type 0
-  Told ended o = BytesCome a ended bytes (Some (fate_of o)) × ((rows : List Row) → o ≡ Played rows → IsPlayedBy a ended bytes rows)
+  Told ended o = BytesFate a ended bytes (Some (fate_of o)) × ((rows : List Row) → o ≡ Played rows → IsPlayedBy a ended bytes rows)
 
   no_run : (ended : Bool) (o other : Outcome) → o ≡ other → ((rows : List Row) → other ≡ Played rows → ⊥) → (rows : List Row) → o ≡ Played rows → IsPlayedBy a ended bytes rows
   no_run ended o other e n rows q = absurd (n rows (sym e ∙ q))
@@ -103,10 +103,10 @@ module _ (a : AskedOf) (w : WitnessesOf) (bytes : List ℕ) where
   settled_at_end (BadWitness k) o h chosen e = ((BadWitness k, h, ap (λ (p : Outcome). Some (fate_of p)) e), no_run true o _ e (λ rows q. cc))
 
   -- nothing is seen yet
-  pub no_more : IsSeen (shape_of a) bytes More → BytesCome a false bytes None
+  pub no_more : IsSeen (shape_of a) bytes More → BytesFate a false bytes None
   no_more h = (More, h, refl)
 
-pub whole_fate : (a : AskedOf) (bytes : List ℕ) (most : ℕ) (fate : Fate) → length bytes ≤ most → BytesCome a true bytes (Some fate) → IsWitnessFate a bytes most fate
+pub whole_fate : (a : AskedOf) (bytes : List ℕ) (most : ℕ) (fate : Fate) → length bytes ≤ most → BytesFate a true bytes (Some fate) → IsWitnessFate a bytes most fate
 whole_fate a bytes most fate l h = record { within = λ _. inl h; beyond = λ k. absurd (omega arith) }
 
 -- the reader of a judge that took bytes
@@ -140,12 +140,12 @@ module _ (j : JudgeOf) (bytes : List ℕ) (t : Took j bytes) (v to : WitnessesOf
         let s = settled j.asked to (bytes ++ part) seen o n seen_here chosen_here h in
         record {
           took = λ e. absurd (let q = e in cc);
-          fate = fate_in j.asked (bytes ++ piece) j.most (fate_of o) (subst (λ (bs : List ℕ). BytesCome j.asked false bs (Some (fate_of o))) first s.0);
+          fate = fate_in j.asked (bytes ++ piece) j.most (fate_of o) (subst (λ (bs : List ℕ). BytesFate j.asked false bs (Some (fate_of o))) first s.0);
           played = λ rows e. subst (λ (bs : List ℕ). IsPlayedBy j.asked false bs rows) first (s.1 rows (let q = e in cc));
         }
 
-    nothing : seen ≡ More → BytesCome j.asked false (take j.most (bytes ++ piece)) None
-    nothing e = subst (λ (bs : List ℕ). BytesCome j.asked false bs None) first (no_more j.asked to (bytes ++ part) (subst (λ (s : Seen). IsSeen (shape_of j.asked) (bytes ++ part) s) e seen_here))
+    nothing : seen ≡ More → BytesFate j.asked false (take j.most (bytes ++ piece)) None
+    nothing e = subst (λ (bs : List ℕ). BytesFate j.asked false bs None) first (no_more j.asked to (bytes ++ part) (subst (λ (s : Seen). IsSeen (shape_of j.asked) (bytes ++ part) s) e seen_here))
 
     pub feed_long : (new : JudgeOf) (o : Outcome) → seen ≡ More → count < length piece → o ≡ Bad (record { kind = TooLong; at = j.most }) → Feeds j new (bytes ++ piece) (Some o)
     feed_long new o e l is_bad =

@@ -18,9 +18,9 @@ use Rattle.btor_witness.specs.Grammar.{FrameOf, WitnessOf}
 use Rattle.btor_witness.specs.declared.spot.Seen.{Seen}
 use Rattle.btor_witness.specs.declared.spot.Seen.TheVariants.{More, Whole, Unknown, EarlyEnd, BadWitness}
 use Rattle.witness_judge.specs.Choosing.{AskedOf, all_inputs, choices_for, shape_of}
-use Rattle.witness_judge.specs.Fate.{BytesCome, IsWitnessFate, IsWitnessFateSoFar, SeenComesTo}
+use Rattle.witness_judge.specs.Fate.{BytesFate, IsWitnessFate, IsWitnessFateSoFar, SeenFate}
 use Rattle.witness_judge.specs.Judging.{IsPlayed}
-use Rattle.witness_judge.specs.Playing.{AreAssumed, IsFound, IsReached, PlaysTo, RunComesTo, ShowsGoal}
+use Rattle.witness_judge.specs.Playing.{AreAssumed, IsFound, IsReached, PlaysTo, RunFate, ShowsGoal}
 use Rattle.witness_judge.specs.declared.sought.Sought.{Sought}
 
 shows : (m : ModelOf) (g : Goal) (n : ℕ) (cs : ℕ → Cycle) (k : ℕ) → Run m n cs → AreAssumed m n cs → IsGoal m g (cs (n - 1)) k → ShowsGoal m g n cs
@@ -39,7 +39,7 @@ shows m (goal.Cover j) n cs k run assumed bad = record {
 }
 
 -- what is found in a run
-pub run_found : (m : ModelOf) (s : Sought) (n : ℕ) (cs : ℕ → Cycle) (k : ℕ) (answer : Answer) → RunComesTo m s n cs k (Found answer) → (answer ≡ Sat) × AreAssumed m n cs × IsReached m s n cs k
+pub run_found : (m : ModelOf) (s : Sought) (n : ℕ) (cs : ℕ → Cycle) (k : ℕ) (answer : Answer) → RunFate m s n cs k (Found answer) → (answer ≡ Sat) × AreAssumed m n cs × IsReached m s n cs k
 run_found m s n cs k answer (inl (t, first, e)) = absurd (let g = e in cc)
 run_found m s n cs k answer (inr (inl (assumed, reached, e))) = ((let g = e in cc), assumed, reached)
 run_found m s n cs k answer (inr (inr (assumed, other, e))) = absurd (let g = e in cc)
@@ -65,21 +65,21 @@ module _ (a : AskedOf) (answer : Answer) where
   found_played x (inl (many, e)) = absurd (let g = e in cc)
   found_played x (inr (few, (cs, plays, comes))) = found_run x cs few plays (run_found a.model a.sought (length x.frames) cs x.bad answer comes)
 
-  found_seen : (ended : Bool) (bytes : List ℕ) (seen : Seen) → SeenComesTo a ended bytes seen (Some (Found answer)) → (answer ≡ Sat) × IsFound a.model a.sought
+  found_seen : (ended : Bool) (bytes : List ℕ) (seen : Seen) → SeenFate a ended bytes seen (Some (Found answer)) → (answer ≡ Sat) × IsFound a.model a.sought
   found_seen ended bytes More e = absurd (let g = e in cc)
   found_seen ended bytes Whole (x, played, holds, plays, e) = let same : played ≡ Found answer = (let g = e in cc) in found_played x (subst (λ (f : Fate). PlaysTo a x f) same plays)
   found_seen ended bytes Unknown e = absurd (let g = e in cc)
   found_seen ended bytes (EarlyEnd n) e = absurd (let g = e in cc)
   found_seen ended bytes (BadWitness n) e = absurd (let g = e in cc)
 
-  found_bytes : (ended : Bool) (bytes : List ℕ) → BytesCome a ended bytes (Some (Found answer)) → (answer ≡ Sat) × IsFound a.model a.sought
+  found_bytes : (ended : Bool) (bytes : List ℕ) → BytesFate a ended bytes (Some (Found answer)) → (answer ≡ Sat) × IsFound a.model a.sought
   found_bytes ended bytes (seen, h, e) = found_seen ended bytes seen e
 
 pub found_so_far : (a : AskedOf) (bytes : List ℕ) (most : ℕ) (answer : Answer) → IsWitnessFateSoFar a bytes most (Some (Found answer)) → (answer ≡ Sat) × IsFound a.model a.sought
-found_so_far a bytes most answer h = found_so_far_by (BytesCome a) most answer (found_bytes a answer) bytes h
+found_so_far a bytes most answer h = found_so_far_by (BytesFate a) most answer (found_bytes a answer) bytes h
 
 pub found_whole : (a : AskedOf) (bytes : List ℕ) (most : ℕ) (answer : Answer) → IsWitnessFate a bytes most (Found answer) → (answer ≡ Sat) × IsFound a.model a.sought
-found_whole a bytes most answer h = found_by (BytesCome a) most answer (found_bytes a answer) bytes h
+found_whole a bytes most answer h = found_by (BytesFate a) most answer (found_bytes a answer) bytes h
 
 -- a run that was played for a witness shows the goal
 pub played_shows : (a : AskedOf) (x : WitnessOf) (rows : List Row) → IsPlayed a x rows → ShowsGoal a.model a.sought.goal (length rows) (cycles_of rows)

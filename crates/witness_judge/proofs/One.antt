@@ -1,4 +1,4 @@
--- Bytes come to one thing.
+-- Bytes have one fate.
 use Rattle.std.proofs.Common.{◌≡◌, ◌⊎◌, ℕ, suc, ◌+◌, ◌-◌, ◌<◌, ◌≤◌, Bool, true, false, List, [], ◌∷◌, Option, Some, length, refl, sym, ap, ◌∙◌, subst, arith, inl, inr}
 use Rattle.model_core.specs.Choices.{Agree, ChoicesOf, Plays}
 use Rattle.model_core.specs.Meaning.{Assumed, Cycle}
@@ -21,8 +21,8 @@ use Rattle.btor_witness.specs.declared.spot.Spot.TheVariants as spot
 use Rattle.btor_witness.proofs.Bytes.{after_over}
 use Rattle.btor_witness.proofs.Exact.{bad_reads, end_kept, ends_reads, holds_reads, one_seen}
 use Rattle.witness_judge.specs.Choosing.{AskedOf, choices_for, shape_of}
-use Rattle.witness_judge.specs.Fate.{BytesCome, IsWitnessFate, IsWitnessFateSoFar, SeenBy, SeenComesTo}
-use Rattle.witness_judge.specs.Playing.{IsFirstUnassumed, IsReached, PlaysTo, RunComesTo}
+use Rattle.witness_judge.specs.Fate.{BytesFate, IsWitnessFate, IsWitnessFateSoFar, SeenBy, SeenFate}
+use Rattle.witness_judge.specs.Playing.{IsFirstUnassumed, IsReached, PlaysTo, RunFate}
 use Rattle.witness_judge.specs.Settling.{HasChosen}
 use Rattle.witness_judge.specs.declared.sought.Sought.{Sought}
 use Rattle.witness_judge.proofs.Chosen.{kept_choices}
@@ -30,7 +30,7 @@ use Rattle.witness_judge.proofs.Feeding.{ends_chosen}
 use Rattle.witness_judge.proofs.Finding.{length_choices}
 use Rattle.witness_judge.proofs.Sating.{no_bad, no_whole}
 
--- runs that agree come to one thing
+-- runs that agree have one fate
 module _ (m : ModelOf) (model : IsModel m) (s : Sought) (n k : ℕ) (cs es : ℕ → Cycle) (agree : (t : ℕ) → t < n → Agree m (cs t) (es t)) where
   there : (t : ℕ) → t < n → Assumed m (cs t) → Assumed m (es t)
   there t l h = assumed_kept m model (cs t) (es t) (agree t l) h
@@ -60,7 +60,7 @@ module _ (m : ModelOf) (model : IsModel m) (s : Sought) (n k : ℕ) (cs es : ℕ
         ]
       ]
 
-  pub run_one : (f g : Fate) → RunComesTo m s n cs k f → RunComesTo m s n es k g → f ≡ g
+  pub run_one : (f g : Fate) → RunFate m s n cs k f → RunFate m s n es k g → f ≡ g
   run_one f g (inl (t, a, e)) (inl (u, b, q)) = let same = first_same t u a b in cc
   run_one f g (inl (t, a, e)) (inr (inl (b, r, q))) = absurd (a.fails (back t a.within (b t a.within)))
   run_one f g (inl (t, a, e)) (inr (inr (b, r, q))) = absurd (a.fails (back t a.within (b t a.within)))
@@ -80,7 +80,7 @@ module _ (a : AskedOf) (model : IsModel a.model) where
       let here : Plays a.model (choices_for a x.frames) es = subst (λ (d : ChoicesOf). Plays a.model d es) (sym c) q in
       let long = length_choices a x.frames in
       run_one a.model model a.sought (length x.frames) x.bad cs es (λ t b. runs_same a.model model (choices_for a x.frames) cs es p here t (omega arith)) f g r
-      (subst (λ (z : ℕ). RunComesTo a.model a.sought z es x.bad g) (sym n) (subst (λ (z : ℕ). RunComesTo a.model a.sought (length y.frames) es z g) (sym k) v))
+      (subst (λ (z : ℕ). RunFate a.model a.sought z es x.bad g) (sym n) (subst (λ (z : ℕ). RunFate a.model a.sought (length y.frames) es z g) (sym k) v))
 
   -- the same is asked, with later cycles
   abbrev later : ℕ → AskedOf
@@ -145,7 +145,7 @@ module _ (a : AskedOf) (model : IsModel a.model) where
   seen_one false bytes s t h g = one_seen (shape_of a) bytes s t h g
   seen_one true bytes s t h g = one_fate (shape_of a) bytes s t h g
 
-  told_one : (ended : Bool) (bytes : List ℕ) (s : Seen) (x y : Option Fate) → SeenComesTo a ended bytes s x → SeenComesTo a ended bytes s y → x ≡ y
+  told_one : (ended : Bool) (bytes : List ℕ) (s : Seen) (x y : Option Fate) → SeenFate a ended bytes s x → SeenFate a ended bytes s y → x ≡ y
   told_one ended bytes More x y e f = e ∙ sym f
   told_one false bytes Whole x y (v, p, h, k, e) (w, q, g, l, f) = e ∙ ap Some (witnesses_one a model bytes v w (inl h) (inl g) p q k l) ∙ sym f
   told_one true bytes Whole x y (v, p, h, k, e) (w, q, g, l, f) = e ∙ ap Some (witnesses_one a model bytes v w h g p q k l) ∙ sym f
@@ -153,11 +153,11 @@ module _ (a : AskedOf) (model : IsModel a.model) where
   told_one ended bytes (EarlyEnd n) x y e f = e ∙ sym f
   told_one ended bytes (BadWitness n) x y e f = e ∙ sym f
 
-  once : (ended : Bool) (bytes : List ℕ) (x y : Option Fate) → BytesCome a ended bytes x → BytesCome a ended bytes y → x ≡ y
-  once ended bytes x y (s, h, e) (t, g, f) = told_one ended bytes s x y e (subst (λ (u : Seen). SeenComesTo a ended bytes u y) (sym (seen_one ended bytes s t h g)) f)
+  once : (ended : Bool) (bytes : List ℕ) (x y : Option Fate) → BytesFate a ended bytes x → BytesFate a ended bytes y → x ≡ y
+  once ended bytes x y (s, h, e) (t, g, f) = told_one ended bytes s x y e (subst (λ (u : Seen). SeenFate a ended bytes u y) (sym (seen_one ended bytes s t h g)) f)
 
   pub one_so_far : (bytes : List ℕ) (most : ℕ) (x y : Option Fate) → IsWitnessFateSoFar a bytes most x → IsWitnessFateSoFar a bytes most y → x ≡ y
-  one_so_far bytes most x y h k = one_so_far_by (BytesCome a) most once bytes x y h k
+  one_so_far bytes most x y h k = one_so_far_by (BytesFate a) most once bytes x y h k
 
   pub one_whole : (bytes : List ℕ) (most : ℕ) (x y : Fate) → IsWitnessFate a bytes most x → IsWitnessFate a bytes most y → x ≡ y
-  one_whole bytes most x y h k = one_by (BytesCome a) most once bytes x y h k
+  one_whole bytes most x y h k = one_by (BytesFate a) most once bytes x y h k

@@ -1,4 +1,4 @@
--- What bytes come to stays.
+-- The fate of bytes stays.
 use Rattle.std.proofs.Common.{◌≡◌, ℕ, Bool, true, false, List, [], ◌∷◌, ◌++◌, Some, None, ap, ◌∙◌, append_assoc, append-nil, inl, subst}
 use Rattle.cert_judge.specs.Fate.{Fate}
 use Rattle.cert_judge.proofs.Bounding.{at_end_by, stays_by}
@@ -8,7 +8,7 @@ use Rattle.btor_witness.specs.Streams.{Holds, IsBadAt, IsCut, IsSeen, text_of}
 use Rattle.btor_witness.specs.declared.spot.Seen.{Seen}
 use Rattle.btor_witness.specs.declared.spot.Seen.TheVariants.{More, Whole, Unknown, EarlyEnd, BadWitness}
 use Rattle.witness_judge.specs.Choosing.{AskedOf, shape_of}
-use Rattle.witness_judge.specs.Fate.{BytesCome, IsWitnessFate, IsWitnessFateSoFar, SeenComesTo}
+use Rattle.witness_judge.specs.Fate.{BytesFate, IsWitnessFate, IsWitnessFateSoFar, SeenFate}
 
 cut_more : (bytes more rest : List ℕ) (lines : List (List ℕ)) → IsCut bytes lines rest → IsCut (bytes ++ more) lines (rest ++ more)
 cut_more bytes more rest lines c = record {
@@ -33,7 +33,7 @@ bad_more shape bytes more n b = record {
 }
 
 module _ (a : AskedOf) where
-  seen_more : (bytes more : List ℕ) (fate : Fate) (seen : Seen) → IsSeen (shape_of a) bytes seen → SeenComesTo a false bytes seen (Some fate) → (ended : Bool) → BytesCome a ended (bytes ++ more) (Some fate)
+  seen_more : (bytes more : List ℕ) (fate : Fate) (seen : Seen) → IsSeen (shape_of a) bytes seen → SeenFate a false bytes seen (Some fate) → (ended : Bool) → BytesFate a ended (bytes ++ more) (Some fate)
   seen_more bytes more fate More h e ended = absurd (let g : Some fate ≡ None = e in cc)
   seen_more bytes more fate Whole h (x, played, holds, plays, e) false =
       let on = holds_more (shape_of a) bytes more x holds in
@@ -46,14 +46,14 @@ module _ (a : AskedOf) where
   seen_more bytes more fate (BadWitness n) h e false = (BadWitness n, bad_more (shape_of a) bytes more n h, e)
   seen_more bytes more fate (BadWitness n) h e true = (BadWitness n, bad_more (shape_of a) bytes more n h, e)
 
-  pub comes_more : (ended : Bool) (bytes more : List ℕ) (fate : Fate) → BytesCome a false bytes (Some fate) → BytesCome a ended (bytes ++ more) (Some fate)
+  pub comes_more : (ended : Bool) (bytes more : List ℕ) (fate : Fate) → BytesFate a false bytes (Some fate) → BytesFate a ended (bytes ++ more) (Some fate)
   comes_more ended bytes more fate (seen, h, e) = seen_more bytes more fate seen h e ended
 
-  comes_at_end : (bytes : List ℕ) (fate : Fate) → BytesCome a false bytes (Some fate) → BytesCome a true bytes (Some fate)
-  comes_at_end bytes fate h = subst (λ (bs : List ℕ). BytesCome a true bs (Some fate)) (append-nil bytes) (comes_more true bytes [] fate h)
+  comes_at_end : (bytes : List ℕ) (fate : Fate) → BytesFate a false bytes (Some fate) → BytesFate a true bytes (Some fate)
+  comes_at_end bytes fate h = subst (λ (bs : List ℕ). BytesFate a true bs (Some fate)) (append-nil bytes) (comes_more true bytes [] fate h)
 
 pub so_far_stays : (a : AskedOf) (bytes more : List ℕ) (most : ℕ) (fate : Fate) → IsWitnessFateSoFar a bytes most (Some fate) → IsWitnessFateSoFar a (bytes ++ more) most (Some fate)
-so_far_stays a bytes more most fate h = stays_by (BytesCome a) most (comes_more a false) bytes more fate h
+so_far_stays a bytes more most fate h = stays_by (BytesFate a) most (comes_more a false) bytes more fate h
 
 pub stays : (a : AskedOf) (bytes more : List ℕ) (most : ℕ) (fate : Fate) → IsWitnessFateSoFar a bytes most (Some fate) → IsWitnessFate a (bytes ++ more) most fate
-stays a bytes more most fate h = at_end_by (BytesCome a) most (comes_at_end a) (bytes ++ more) fate (so_far_stays a bytes more most fate h)
+stays a bytes more most fate h = at_end_by (BytesFate a) most (comes_at_end a) (bytes ++ more) fate (so_far_stays a bytes more most fate h)

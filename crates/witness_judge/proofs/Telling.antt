@@ -1,4 +1,4 @@
--- What a witness comes to.
+-- The fate of a witness.
 use Rattle.std.proofs.Common.{◌≡◌, ℕ, ◌-◌, ◌≤◌, List, length, map, sym, ap, ◌∙◌, subst, inr}
 use Rattle.std.specs.Prelude.{All}
 use Rattle.std.specs.List.{concat}
@@ -12,7 +12,7 @@ use Rattle.btor_witness.specs.Grammar.{WitnessOf}
 use Rattle.btor_witness.specs.Machine.{WitnessesOf}
 use Rattle.witness_judge.specs.Choosing.{AskedOf, bit_for, choices_for}
 use Rattle.witness_judge.specs.Judging.{IsPlayed, fate_of}
-use Rattle.witness_judge.specs.Playing.{RunComesTo}
+use Rattle.witness_judge.specs.Playing.{RunFate}
 use Rattle.witness_judge.specs.Settling.{HasChosen, Tells}
 use Rattle.witness_judge.specs.declared.outcome.Outcome.{Outcome}
 use Rattle.witness_judge.specs.declared.outcome.Outcome.TheVariants.{Played}
@@ -38,12 +38,12 @@ module _ (a : AskedOf) (w : WitnessesOf) (x : WitnessOf) (chose : HasChosen a w 
     run_plays : Plays a.model (choices_for a x.frames) (cycles_of rows)
     run_plays = subst (λ (d : ChoicesOf). Plays a.model d (cycles_of rows)) same plays
 
-    comes : (o : Outcome) → RunComesTo a.model a.sought (length rows) (cycles_of rows) bad (fate_of o) → RunComesTo a.model a.sought (length x.frames) (cycles_of rows) x.bad (fate_of o)
-    comes o r = subst (λ (n : ℕ). RunComesTo a.model a.sought n (cycles_of rows) x.bad (fate_of o)) long (subst (λ (k : ℕ). RunComesTo a.model a.sought (length rows) (cycles_of rows) k (fate_of o)) (named ∙ chose.kept.bad) r)
+    comes : (o : Outcome) → RunFate a.model a.sought (length rows) (cycles_of rows) bad (fate_of o) → RunFate a.model a.sought (length x.frames) (cycles_of rows) x.bad (fate_of o)
+    comes o r = subst (λ (n : ℕ). RunFate a.model a.sought n (cycles_of rows) x.bad (fate_of o)) long (subst (λ (k : ℕ). RunFate a.model a.sought (length rows) (cycles_of rows) k (fate_of o)) (named ∙ chose.kept.bad) r)
 
-    played : (o : Outcome) → RunComesTo a.model a.sought (length rows) (cycles_of rows) bad (fate_of o) → ((rs : List Row) → o ≡ Played rs → rs ≡ rows) → (rs : List Row) → o ≡ Played rs → IsPlayed a x rs
+    played : (o : Outcome) → RunFate a.model a.sought (length rows) (cycles_of rows) bad (fate_of o) → ((rs : List Row) → o ≡ Played rs → rs ≡ rows) → (rs : List Row) → o ≡ Played rs → IsPlayed a x rs
     played o r own rs e =
-        let found = run_found a.model a.sought (length rows) (cycles_of rows) bad Sat (subst (λ (p : Outcome). RunComesTo a.model a.sought (length rows) (cycles_of rows) bad (fate_of p)) e r) in
+        let found = run_found a.model a.sought (length rows) (cycles_of rows) bad Sat (subst (λ (p : Outcome). RunFate a.model a.sought (length rows) (cycles_of rows) bad (fate_of p)) e r) in
         let here : IsPlayed a x rows = record {
           plays = run_plays;
           cycles = long;
@@ -54,5 +54,5 @@ module _ (a : AskedOf) (w : WitnessesOf) (x : WitnessOf) (chose : HasChosen a w 
         } in
         subst (λ (qs : List Row). IsPlayed a x qs) (sym (own rs e)) here
 
-    pub tells_run : (o : Outcome) → RunComesTo a.model a.sought (length rows) (cycles_of rows) bad (fate_of o) → ((rs : List Row) → o ≡ Played rs → rs ≡ rows) → Tells a x o
+    pub tells_run : (o : Outcome) → RunFate a.model a.sought (length rows) (cycles_of rows) bad (fate_of o) → ((rs : List Row) → o ≡ Played rs → rs ≡ rows) → Tells a x o
     tells_run o r own = record { fate = inr (few, (cycles_of rows, run_plays, comes o r)); run = played o r own }

@@ -1,4 +1,4 @@
--- What the run of a witness comes to.
+-- The fate of a witness's run.
 use Rattle.std.specs.Prelude.{◌≡◌, ◌⊎◌, ℕ, ◌-◌, ◌<◌, ◌≤◌, length}
 use Rattle.sby_terms.specs.declared.names.Answer.TheVariants.{Sat}
 use Rattle.model_core.specs.Choices.{Plays}
@@ -29,18 +29,18 @@ pub record IsReached (m : ModelOf) (s : Sought) (n : ℕ) (cs : ℕ → Cycle) (
   pub late : s.first < n
   pub bad : IsGoal m s.goal (cs (n - 1)) k
 
--- what a run of n cycles comes to, for bad k
-abbrev pub RunComesTo : ModelOf → Sought → ℕ → (ℕ → Cycle) → ℕ → Fate → Type 0
-RunComesTo m s n cs k fate =
+-- the fate of a run of n cycles, for bad k
+abbrev pub RunFate : ModelOf → Sought → ℕ → (ℕ → Cycle) → ℕ → Fate → Type 0
+RunFate m s n cs k fate =
     ((t : ℕ) × IsFirstUnassumed m n cs t × (fate ≡ Bad NotPlaying t))
     ⊎ (AreAssumed m n cs × IsReached m s n cs k × (fate ≡ Found Sat))
     ⊎ (AreAssumed m n cs × (IsReached m s n cs k → ⊥) × (fate ≡ Bad NotPlaying (n - 1)))
 
--- What a witness comes to: it has too many frames, or what the run comes to that plays what they choose.
+-- The fate of a witness: it has too many frames, or the fate is that of the run that plays what they choose.
 abbrev pub PlaysTo : AskedOf → WitnessOf → Fate → Type 0
 PlaysTo a x fate =
     ((a.sought.last < length x.frames) × (fate ≡ Bad NotPlaying a.sought.last))
-    ⊎ ((length x.frames ≤ a.sought.last) × ((cs : ℕ → Cycle) × Plays a.model (choices_for a x.frames) cs × RunComesTo a.model a.sought (length x.frames) cs x.bad fate))
+    ⊎ ((length x.frames ≤ a.sought.last) × ((cs : ℕ → Cycle) × Plays a.model (choices_for a x.frames) cs × RunFate a.model a.sought (length x.frames) cs x.bad fate))
 
 -- a run of n cycles, each of them assumed, whose last breaks an assertion, or reaches the cover statement
 abbrev pub ShowsGoal : ModelOf → Goal → ℕ → (ℕ → Cycle) → Type 0

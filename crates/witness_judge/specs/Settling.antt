@@ -20,7 +20,7 @@ pub record HasChosen (a : AskedOf) (w : WitnessesOf) (x : WitnessOf) : Type 0 wh
   pub some : 0 < length x.frames
   pub fits : AllByRecursion (FrameFits (shape_of a)) x.frames
 
--- the outcome is what the witness comes to, with its run
+-- the outcome is the fate of the witness, with its run
 pub record Tells (a : AskedOf) (x : WitnessOf) (o : Outcome) : Type 0 where
   pub fate : PlaysTo a x (fate_of o)
   pub run : (rows : List Row) → o ≡ outcome.Played rows → IsPlayed a x rows

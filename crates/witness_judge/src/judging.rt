@@ -69,7 +69,7 @@ impl<'m> WitnessJudge<'m> {
         })
     }
 
-    /// Takes the next piece of the stream, and answers what the bytes so far come to, or None where that is nothing yet. After an answer, and
+    /// Takes the next piece of the stream, and answers what the bytes so far are judged as, or None where that is undecided. After an answer, and
     /// after one out of memory, nothing more may come.
     pub fn feed(&mut self, piece: &[u8]) -> Result<Option<Outcome>, AllocError>
         requires { is_reading self.old ≡ true }
@@ -94,7 +94,7 @@ impl<'m> WitnessJudge<'m> {
         Ok(None)
     }
 
-    /// The stream ends. Answers what it comes to. Nothing more may come.
+    /// The stream ends. Answers what it is judged as. Nothing more may come.
     pub fn end(&mut self) -> Result<Outcome, AllocError>
         requires { is_reading self.old ≡ true }
         ensures same { IsSameJudge self.old self.new }

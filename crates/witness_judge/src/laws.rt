@@ -15,7 +15,7 @@ ghost use Rattle.witness_judge.specs.Playing.{IsFound, ShowsGoal};
 
 use btor_witness::bytes_are_read;
 
-/// What bytes come to stays, whatever follows, and is what a stream comes to that begins with them.
+/// The fate of bytes stays, whatever follows, and is that of a stream that begins with them.
 #[tactic(auto, using(crate::proofs::Staying::so_far_stays, crate::proofs::Staying::stays))]
 pub fn fates_stay()
     ensures so_far { (a : AskedOf) (bytes more : List ℕ) (most : ℕ) (fate : Fate) → IsWitnessFateSoFar a bytes most (Some fate) → IsWitnessFateSoFar a (bytes ++ more) most (Some fate) }

@@ -1,4 +1,4 @@
-// What a stream comes to.
+// Outcomes.
 
 ghost use Rattle.std.specs.Prelude.{◌≡◌};
 ghost use Rattle.cert_judge.specs.declared.stream.CertKind.TheVariants.{EarlyEnd, NotPlaying};
@@ -7,7 +7,7 @@ ghost use Rattle.witness_judge.specs.declared.outcome.Outcome.TheVariants as out
 use cert_judge::{BadCert, CertKind};
 use model_play::kept::Kept;
 
-/// What a stream comes to as a witness.
+/// The outcome of judging a stream as a witness.
 #[derive(Drop)]
 pub enum Outcome {
     /// This run, played as the witness chooses, reaches the goal.

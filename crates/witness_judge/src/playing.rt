@@ -1,4 +1,4 @@
-// What a run that was played comes to.
+// The outcome of a run that was played.
 
 ghost use Rattle.std.specs.Prelude.{◌≡◌, ◌↔◌, ◌<◌, ◌&&◌, [], All, IsTrue, List, MatchOption, Option, Some, length, not, slice_index_or};
 ghost use Rattle.sby_bits.specs.Rows.{Row};
@@ -7,7 +7,7 @@ ghost use Rattle.model_core.specs.Shape.{IsStatement};
 ghost use Rattle.model_play.specs.Playing.{cycles_of};
 ghost use Rattle.btor_emit.specs.Goals.{IsGoal};
 ghost use Rattle.witness_judge.specs.Judging.{fate_of};
-ghost use Rattle.witness_judge.specs.Playing.{AreAssumed, IsFirstUnassumed, IsReached, RunComesTo};
+ghost use Rattle.witness_judge.specs.Playing.{AreAssumed, IsFirstUnassumed, IsReached, RunFate};
 ghost use Rattle.witness_judge.specs.declared.outcome.Outcome.TheVariants.{Played};
 
 use crate::outcome::{Outcome, not_playing};
@@ -92,11 +92,11 @@ fn is_sought(model: &WordModel, run: &Kept, sought: Sought, bad: u64) -> bool
     cycles > sought.first as usize && is_bad(model, run, cycles - 1, sought.goal, bad)
 }
 
-/// What a run comes to, as one that a witness for this bad chooses.
+/// The outcome of a run, as one that a witness for this bad chooses.
 pub(crate) fn outcome(model: &WordModel, run: Kept, sought: Sought, bad: u64) -> Outcome
     requires some { 0 < length run }
     requires rows { All (λ row. length row ≡ model.now.size) run }
-    ensures fate { RunComesTo model.now sought (length run) (cycles_of run) bad (fate_of result) }
+    ensures fate { RunFate model.now sought (length run) (cycles_of run) bad (fate_of result) }
     ensures run { (rows : List Row) → result ≡ Played rows → rows ≡ run }
 {
     if let Some(cycle) = first_unassumed(model, &run) {

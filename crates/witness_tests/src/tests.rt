@@ -28,7 +28,7 @@ fn shape(alloc: Global) -> Result<Shape, AllocError> {
     Ok(Shape { states, inputs })
 }
 
-// What is read of a text that comes in two pieces, the first of at most so many bytes, where at most two frames are kept.
+// What is read of a text that comes in two pieces, the first of at most this many bytes, where at most two frames are kept.
 fn read(alloc: Global, text: &[u8], cut: usize) -> Result<Witnesses, AllocError> {
     let shape = shape(alloc)?;
     let mut witnesses = Witnesses::new(alloc, shape, 2)?;

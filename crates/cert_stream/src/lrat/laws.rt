@@ -57,7 +57,6 @@ pub fn sayings_stay_before_more()
 
 /// A fault's byte is the number of bytes of the longest part of the stream with which some hinted stream begins. Where there is no
 /// fault, some hinted stream begins with all bytes.
-#[tactic(auto, using(crate::proofs::LratBeginnings::fault_within, crate::proofs::LratBeginnings::begins_before, crate::proofs::LratBeginnings::begins_past, crate::proofs::LratBeginnings::begins_all))]
 pub fn fault_is_first()
     ensures within { (vars : ℕ) (ended : Bool) (bytes : List ℕ) (f : ParseFault) → HasFault (sayings vars ended bytes) f → f.byte < length bytes }
     ensures before { (vars : ℕ) (ended : Bool) (bytes : List ℕ) (f : ParseFault) → HasFault (sayings vars ended bytes) f → Begins vars (take f.byte bytes) }

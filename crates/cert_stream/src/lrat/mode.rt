@@ -60,7 +60,7 @@ pub enum Mode {
     /// The digits so far of its own id.
     InId(u64),
     /// Its id and white space.
-    BehindId,
+    AfterId,
     /// Its id and d.
     DeletionHead,
     InLits(LitList, Part),

@@ -1,60 +1,33 @@
 // What is kept of a hinted stream.
 
-ghost use Rattle.std.specs.Prelude.{◌≡◌, ℕ, ◌+◌, ◌<◌, ◌≤◌, ◌^◌, cond, Bool, true, false, List, [], ◌∷◌, ◌++◌, length, Option, Some, None, IfOk, OnErr};
-ghost use Rattle.cnf_form.specs.Cnf.{LitOf, ClauseWithin};
+ghost use Rattle.std.specs.Prelude.{◌≡◌, ◌+◌, ◌<◌, ◌≤◌, ◌^◌, cond, true, false, Option, Some, None, IfOk, OnErr};
+ghost use Rattle.cnf_form.specs.Cnf.{ClauseWithin};
 ghost use Rattle.cnf_form.specs.declared.literal.TheConstants.{MAX_VARS};
-ghost use Rattle.cert_stream.specs.Text.{is_blank};
-ghost use Rattle.cert_stream.specs.Machine.{IsPartWithin, IsEventWithin, begins_literal, goes_on, is_literal_part, spelling, with_digit};
-ghost use Rattle.cert_stream.specs.LratMachine.{LratOf, Turn, IsIdPartWithin, IsModeWithin, at_end, begins_id, emptied, end_id_part, end_line, end_part, end_word, ended, fails, fault_of, heard, id_digit, id_first, id_goes_on, id_part, is_id_number, is_in_number, lits_ended, own_digit, read, takes_minus, turn, unended, visible, visible_behind, visible_digit, visible_first, visible_part, visible_plain, visible_spelled, visible_start};
+ghost use Rattle.cert_stream.specs.Machine.{IsPartWithin, IsEventWithin, is_literal_part, with_digit};
+ghost use Rattle.cert_stream.specs.LratMachine.{LratOf, IsIdPartWithin, IsModeWithin, at_end, begins_id, emptied, end_id_part, end_line, end_part, end_word, ended, fails, fault_of, heard, id_digit, id_first, id_goes_on, id_part, is_id_number, is_in_number, lits_ended, own_digit, read, takes_minus, turn, unended, visible, visible_after_id, visible_part, visible_plain, visible_spelled, visible_start};
 ghost use Rattle.cert_stream.specs.LratTelling.{fresh};
 
 use crate::lrat::mode::{Hint, IdList, IdPart, LitList, MAX_HINTS, MAX_ID, Mode};
+use crate::word::{is_blank, part_next, spelling};
 use crate::{Event, ParseFault, ParseFaultKind, Part};
 use cnf_form::Lit;
 use std::alloc::{AllocError, Global};
 use std::marker::Model;
 
-fn is_blank(b: u8) -> bool
-    ensures { result ≡ is_blank b }
-{
-    b == b' ' || b == b'\t' || b == b'\r'
-}
-
-// Whether the number that these digits and this byte write is from 1 to the greatest one.
-fn with_digit(most: u64, n: u64, b: u8) -> Option<u64>
+// Whether the number that these digits and this byte write is an id.
+fn with_id_digit(n: u64, b: u8) -> Option<u64>
     requires { n ≤ MAX_ID }
-    ensures { result ≡ cond (goes_on most n b) (Some (with_digit n b)) None }
+    ensures { result ≡ cond (id_goes_on n b) (Some (with_digit n b)) None }
 {
     if !(b'0'..=b'9').contains(&b) {
         return None;
     }
     let value = 10 * n as u128 + (b - b'0') as u128;
-    if value >= 1 && value <= most as u128 {
+    if value >= 1 && value <= MAX_ID as u128 {
         Some(value as u64)
     } else {
         None
     }
-}
-
-fn with_id_digit(n: u64, b: u8) -> Option<u64>
-    requires { n ≤ MAX_ID }
-    ensures { result ≡ cond (id_goes_on n b) (Some (with_digit n b)) None }
-{
-    with_digit(MAX_ID, n, b)
-}
-
-// Whether the number that these digits and this byte write is one of a variable.
-fn with_var_digit(vars: u32, n: u32, b: u8) -> Option<u32>
-    ensures { result ≡ cond (goes_on vars n b) (Some (with_digit n b)) None }
-{
-    let value = with_digit(vars as u64, n as u64, b)?;
-    Some(value as u32)
-}
-
-fn begins_literal(vars: u32, b: u8) -> bool
-    ensures { result ≡ begins_literal vars b }
-{
-    b == b'-' && vars >= 1 || with_var_digit(vars, 0, b).is_some()
 }
 
 fn takes_minus(kind: IdList) -> bool
@@ -112,21 +85,6 @@ fn heard(kind: LitList, l: Lit) -> Option<Event>
     match kind {
         LitList::Clause => None,
         LitList::Values => Some(Event::Value(l)),
-    }
-}
-
-fn spelling(n: u8) -> u8
-    ensures { result ≡ spelling n }
-{
-    match n {
-        0 => b'U',
-        1 => b'N',
-        2 => b'K',
-        3 => b'N',
-        4 => b'O',
-        5 => b'W',
-        6 => b'N',
-        _ => 0,
     }
 }
 
@@ -222,7 +180,7 @@ impl LratParser {
             Mode::InIds(kind, part) => return self.end_id_part(kind, part),
             Mode::InId(n) => {
                 self.id = n;
-                self.mode = Mode::BehindId;
+                self.mode = Mode::AfterId;
             }
             Mode::DeletionHead => self.mode = Mode::InIds(IdList::Deletion, IdPart::Gap),
             Mode::ValuesHead => self.mode = Mode::InLits(LitList::Values, Part::Gap),
@@ -238,7 +196,7 @@ impl LratParser {
             | Mode::Skip(_)
             | Mode::StatusGap
             | Mode::Whole
-            | Mode::BehindId
+            | Mode::AfterId
             | Mode::Closed
             | Mode::Bad(_) => {}
         }
@@ -261,7 +219,7 @@ impl LratParser {
             Mode::Skip(amid) => self.mode = Mode::Start(amid),
             Mode::ValuesHead => self.mode = Mode::Start(true),
             Mode::InLits(kind, _) => self.unended(kind),
-            Mode::InId(_) | Mode::BehindId | Mode::DeletionHead | Mode::InIds(..) => {
+            Mode::InId(_) | Mode::AfterId | Mode::DeletionHead | Mode::InIds(..) => {
                 self.fail(ParseFaultKind::BadLine);
             }
             Mode::StatusHead | Mode::StatusGap | Mode::Spelled(_) | Mode::Closed => {
@@ -276,47 +234,14 @@ impl LratParser {
         None
     }
 
-    fn visible_digit(&mut self, kind: LitList, negated: bool, n: u32, b: u8)
-        ensures { self.new ≡ (visible_digit self.old kind negated n b).to }
-    {
-        match with_var_digit(self.vars, n, b) {
-            Some(value) => {
-                self.mode = Mode::InLits(kind, Part::Digits(Lit::new(value, negated)));
-            }
-            None => self.fail(ParseFaultKind::BadLiteral),
-        }
-    }
-
-    fn visible_first(&mut self, kind: LitList, b: u8)
-        ensures { self.new ≡ (visible_first self.old kind b).to }
-    {
-        if b == b'0' {
-            self.mode = Mode::InLits(kind, Part::Zero);
-            return;
-        }
-        if !begins_literal(self.vars, b) {
-            self.fail(ParseFaultKind::BadLiteral);
-            return;
-        }
-        if self.lits.len() >= self.vars as usize {
-            self.fail(ParseFaultKind::LineTooLong);
-            return;
-        }
-        if b == b'-' {
-            self.mode = Mode::InLits(kind, Part::Minus);
-        } else {
-            self.visible_digit(kind, false, 0, b);
-        }
-    }
-
+    #[tactic(auto, using(crate::proofs::LratTurning::part_is))]
     fn visible_part(&mut self, kind: LitList, part: Part, b: u8)
         ensures { self.new ≡ (visible_part self.old kind part b).to }
     {
-        match part {
-            Part::Gap => self.visible_first(kind, b),
-            Part::Minus => self.visible_digit(kind, true, 0, b),
-            Part::Zero => self.fail(ParseFaultKind::BadLiteral),
-            Part::Digits(l) => self.visible_digit(kind, l.is_negated(), l.var(), b),
+        let full = self.lits.len() >= self.vars as usize;
+        match part_next(self.vars, full, part, b) {
+            Ok(part) => self.mode = Mode::InLits(kind, part),
+            Err(fault) => self.fail(fault),
         }
     }
 
@@ -394,13 +319,13 @@ impl LratParser {
         }
     }
 
-    fn visible_behind(&mut self, b: u8)
-        ensures { self.new ≡ (visible_behind self.old b).to }
+    fn visible_after_id(&mut self, b: u8)
+        ensures { self.new ≡ (visible_after_id self.old b).to }
     {
         if b == b'd' {
             self.mode = Mode::DeletionHead;
         } else {
-            self.visible_first(LitList::Clause, b);
+            self.visible_part(LitList::Clause, Part::Gap, b);
         }
     }
 
@@ -451,7 +376,7 @@ impl LratParser {
             Mode::Spelled(n) => self.visible_spelled(n, b),
             Mode::Whole => self.mode = Mode::Skip(false),
             Mode::InId(n) => self.own_digit(n, b),
-            Mode::BehindId => self.visible_behind(b),
+            Mode::AfterId => self.visible_after_id(b),
             Mode::InLits(kind, part) => self.visible_part(kind, part, b),
             Mode::InIds(kind, part) => self.id_part(kind, part, b),
             Mode::Skip(_) | Mode::Bad(_) => {}

@@ -53,7 +53,7 @@ fn four_inputs(alloc: Global) -> Result<WordModel, AllocError>
     Ok(draft.finish())
 }
 
-// What a text comes to that comes in two pieces, the first of at most so many bytes, where at most `most` bytes are taken, the model's inputs
+// What a text in two pieces is judged as, the first of at most this many bytes, where at most `most` bytes are taken, the model's inputs
 // stand in these rows, and the assertion is to be broken in one of the first two cycles.
 fn judged(
     alloc: Global,
@@ -82,14 +82,14 @@ fn judged(
     judge.end()
 }
 
-// What a text comes to for the one bit, of which at most 24 bytes are taken.
+// What a text is judged as for the one bit, of which at most 24 bytes are taken.
 fn come(alloc: Global, text: &[u8], cut: usize) -> Result<Outcome, AllocError> {
     let model = one_bit(alloc)?;
     let rows = Rows::new(alloc);
     judged(alloc, &model, &rows, text, cut, 24)
 }
 
-// What a text comes to for the four inputs, of which three are one word, the one at 3 its highest bit.
+// What a text is judged as for the four inputs, of which three are one word, the one at 3 its highest bit.
 fn word_comes(alloc: Global, text: &[u8], cut: usize) -> Result<Outcome, AllocError> {
     let model = four_inputs(alloc)?;
     let mut rows = Rows::new(alloc);
@@ -97,7 +97,7 @@ fn word_comes(alloc: Global, text: &[u8], cut: usize) -> Result<Outcome, AllocEr
     judged(alloc, &model, &rows, text, cut, 64)
 }
 
-// Whether it comes to this fault, however it is cut.
+// Whether it is judged as this fault, however it is cut.
 fn is_always(alloc: Global, text: &[u8], kind: CertKind, at: u64) -> Result<bool, AllocError> {
     for cut in 0..text.len() {
         match come(alloc, text, cut)? {

@@ -5,4 +5,4 @@ use Rattle.proof_stream.proofs.text.pass.Goals as goal
 pub loop-i-preserved : goal.loop-i-preserved
 loop-i-preserved c =
     let k = pass_step _ _ c.args.bytes.now c.loop-i.i c.loop-i-test.true c.loop-i.invariant.passes c.loop-i.invariant.starts (sym c.claims.ensures ∙ c.if-claims.false) in
-    record { within = omega (arith, c.loop-i-test.true); passes = k.0; starts = c.starts_behind.ensures ∙ k.1 }
+    record { within = omega (arith, c.loop-i-test.true); passes = k.0; starts = c.next_starts.ensures ∙ k.1 }

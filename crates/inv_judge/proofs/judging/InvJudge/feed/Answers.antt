@@ -1,6 +1,6 @@
 use Rattle.std.proofs.Common.{List, ap, arith, refl, subst, sym, ℕ, ◌++◌, ◌+◌, ◌-◌, ◌≤◌, ◌∙◌}
 use Rattle.inv_stream.specs.Machine.{taken}
-use Rattle.inv_judge.specs.Judging.{Feeds, JudgeOf, Stands, outcome_of}
+use Rattle.inv_judge.specs.Judging.{Feeds, JudgeOf, HasTaken, outcome_of}
 use Rattle.inv_judge.proofs.Pieces.{counted, feeds_again, feeds_piece, judge}
 use Rattle.inv_judge.proofs.judging.InvJudge.feed.Goals as goal
 
@@ -27,7 +27,7 @@ returns-clause-feeds c =
     let j = c.self.inside in
     let v = c.take_piece.new.parser in
     let d = c.take_piece.new.claim in
-    subst (λ (old : JudgeOf). (bytes : List ℕ) → Stands old bytes → Feeds old (judge v d (j.count + c.min.result) j.most j.wanting) (bytes ++ c.args.piece.now) c.outcome-2.result) c.self.view_is
+    subst (λ (old : JudgeOf). (bytes : List ℕ) → HasTaken old bytes → Feeds old (judge v d (j.count + c.min.result) j.most j.wanting) (bytes ++ c.args.piece.now) c.outcome-2.result) c.self.view_is
     (λ bytes s. subst (λ o. Feeds (judge j.parser j.claim j.count j.most j.wanting) (judge v d (j.count + c.min.result) j.most j.wanting) (bytes ++ c.args.piece.now) o) (sym c.outcome-2.ensures)
     (subst (λ (x : ℕ). Feeds (judge j.parser j.claim j.count j.most j.wanting) (judge v d (j.count + x) j.most j.wanting) (bytes ++ c.args.piece.now) d.outcome) (sym c.min.ensures)
     (feeds_piece j.parser v j.claim d j.count j.most (j.most - j.count) j.wanting bytes c.args.piece.now s (sym c.outcome.ensures ∙ c.in_default.is) refl c.in-Ok.ensures.takes)))
