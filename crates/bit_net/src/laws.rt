@@ -53,7 +53,7 @@ pub fn levels_are_needs()
     ensures { (n : NetOf) (now before : List LitOf) (count : ℕ) → IsNet n → IsNeed n count (λ t v. nearer n now before (count - t) v) }
 {}
 
-/// The same where up to a cycle fewer literals are asked for.
+/// Where up to a cycle fewer literals are asked for, what is needed is a need as well.
 pub fn two_levels_are_needs()
     ensures { (n : NetOf) (goals asks : List LitOf) (first count : ℕ) → IsNet n → IsNeed n count (is_needed n goals asks first count) }
 {}

@@ -38,7 +38,7 @@ with_body m b = record { lines = m.lines ++ record { nid = suc (length m.lines);
 abbrev pub with_sort : BtorOf → ℕ → BtorOf
 with_sort m w = cond (eqb (sort_nid m.lines w) 0) (with_body m (body.Sort w)) m
 
--- with one value more, of so many bits
+-- with one more value, of this many bits
 abbrev pub with_value : BtorOf → ℕ → Node → BtorOf
 with_value m w n = with_body (with_sort m w) (body.Value (sort_nid (with_sort m w).lines w) w n)
 

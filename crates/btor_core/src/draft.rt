@@ -87,7 +87,7 @@ impl Draft {
         self.model.promise();
     }
 
-    // Whether so many lines more have numbers.
+    // Whether this many more lines have numbers.
     fn has_room(&self, lines: usize) -> bool
         requires { lines ≤ 2 }
         ensures { IsTrue result ↔ (length self.now.lines + lines < 2 ^ 32 - 1) }
@@ -160,7 +160,7 @@ impl Draft {
         }
     }
 
-    /// Adds a value of so many bits.
+    /// Adds a value of this many bits.
     pub fn push(&mut self, width: u32, node: Node) -> Result<Word, DraftFault>
         requires width { IsWidth width }
         requires fits { NodeFits self.old.constants self.old.lines width node }

@@ -60,9 +60,9 @@ pub enum Node {
     Binary(Binary, u32, u32),
     /// Of an operand the bits from the upper to the lower place, both included.
     Slice(u32, u32, u32),
-    /// An operand made longer by so many zeros.
+    /// An operand extended by this many zeros.
     Uext(u32, u32),
-    /// An operand made longer by so many copies of its sign.
+    /// An operand extended by this many copies of its sign.
     Sext(u32, u32),
     /// The second operand where the first, of one bit, is set, else the third.
     Ite(u32, u32, u32),
@@ -71,9 +71,9 @@ pub enum Node {
 /// What a line says. Where it begins with a sort, this is the sort's nid.
 #[derive(Clone, Copy, Debug, PartialEq, Eq)]
 pub enum Body {
-    /// A sort: bit-vectors of so many bits.
+    /// A sort: bit-vectors of this many bits.
     Sort(u32),
-    /// A value of a sort, which is so many bits wide.
+    /// A value of a sort, which is this many bits wide.
     Value(u32, u32, Node),
     /// Of a sort a state, and the line as which it is in the first cycle.
     Init(u32, u32, u32),

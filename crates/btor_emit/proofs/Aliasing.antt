@@ -11,7 +11,7 @@ use Rattle.btor_emit.specs.declared.table.Seat.TheVariants.{Digit}
 use Rattle.btor_emit.proofs.Seating.{set_at, set_beside}
 use Rattle.model_core.proofs.Lists.{contained_at, place_of_contained}
 
--- the first so many places stand so
+-- the first n places stand so
 pub record AreAliasedTo (before now : Table) (places others : List ℕ) (n : ℕ) : Type 0 where
   pub size : length now ≡ length before
   pub each : (p : ℕ) → ((k q : ℕ) × (k < n) × (slice_get places k ≡ Some p) × (slice_get others k ≡ Some q) × (slice_get now p ≡ slice_get before q)) ⊎ (((k : ℕ) → k < n → slice_get places k ≡ Some p → ⊥) × (slice_get now p ≡ slice_get before p))

@@ -1,12 +1,12 @@
 -- Where stretches begin and end.
 use Rattle.std.proofs.Common.{◌≡◌, ◌⊎◌, ◌≢◌, inl, inr, ℕ, zero, suc, ◌+◌, ◌-◌, ◌<◌, ◌≤◌, List, [], ◌∷◌, Some, length, take, drop, sym, ap, subst, ◌∙◌, arith, length-append}
-use Rattle.std.specs.Prelude.{slice_get}
+use Rattle.std.specs.Prelude.{slice_get, All}
 use Rattle.std.specs.List.{flat_map}
 use Rattle.std.proofs.lemmas.Bool.{cases_lt}
 use Rattle.btor_core.specs.declared.line.Word.{Word}
 use Rattle.btor_emit.specs.States.{IsEdge, IsStretchOf, IsTurn, is_known}
-use Rattle.model_core.specs.Shape.{ModelOf, RegisterOf, states}
-use Rattle.model_core.proofs.Lists.{flat_more, flat_rest}
+use Rattle.model_core.specs.Shape.{IsRegister, ModelOf, RegisterOf, states}
+use Rattle.model_core.proofs.Lists.{all_at, at_place, flat_more, flat_rest}
 
 -- where a register begins
 abbrev pub edge_at : ModelOf → ℕ → ℕ
@@ -25,7 +25,7 @@ take_more (suc i) d (r ∷ rs) =
 edges_rise : (m : ModelOf) (i j : ℕ) → i ≤ j → edge_at m i ≤ edge_at m j
 edges_rise m i j l = let e : i + (j - i) ≡ j = omega arith in subst (λ (k : ℕ). edge_at m i ≤ edge_at m k) e (take_more i (j - i) m.registers)
 
-pub register_end : (m : ModelOf) (i n : ℕ) (r : RegisterOf) → slice_get m.registers i ≡ Some r → n ≡ length r.q → edge_at m i + n ≡ edge_at m (i + 1)
+register_end : (m : ModelOf) (i n : ℕ) (r : RegisterOf) → slice_get m.registers i ≡ Some r → n ≡ length r.q → edge_at m i + n ≡ edge_at m (i + 1)
 register_end m i n r at e =
     let z : suc i ≡ i + 1 = omega arith in
     let a = flat_more (λ (u : RegisterOf). u.q) m.registers i r at in
@@ -36,6 +36,19 @@ pub edge_inside : (m : ModelOf) (i : ℕ) → edge_at m i ≤ length (states m)
 edge_inside m i =
     let a = ap (λ (ps : List ℕ). length ps) (flat_rest (λ (u : RegisterOf). u.q) m.registers i) ∙ length-append (flat_map (λ (u : RegisterOf). u.q) (take i m.registers)) (flat_map (λ (u : RegisterOf). u.q) (drop i m.registers)) in
     omega arith
+
+-- where a register's bits stand among all state bits
+pub record IsSpan (m : ModelOf) (i wide : ℕ) : Type 0 where
+  pub end : edge_at m i + wide ≡ edge_at m (i + 1)
+  pub inside : edge_at m (i + 1) ≤ length (states m)
+  pub narrow : wide ≤ 4096
+
+pub span_of : (m : ModelOf) (i : ℕ) (q : List ℕ) → All (IsRegister m.size) m.registers → i < length m.registers → ((r : RegisterOf) → slice_get m.registers i ≡ Some r → q ≡ r.q) → IsSpan m i (length q)
+span_of m i q each below is =
+    let r = at_place m.registers i below in
+    let wide : length q ≡ length r.0.q = ap (λ (ps : List ℕ). length ps) (is r.0 r.1) in
+    let narrow = (all_at (IsRegister m.size) m.registers i r.0 each r.1).narrow in
+    record { end = register_end m i (length q) r.0 r.1 wide; inside = edge_inside m (i + 1); narrow = omega arith }
 
 -- a longest stretch within a register
 pub stretch_of : (m : ModelOf) (i next stop : ℕ) (a : Word) → edge_at m i ≤ next → next < stop → stop ≤ edge_at m (i + 1) → ((k : ℕ) → next ≤ k → k < stop → is_known m.starts k ≡ is_known m.starts next) → IsEdge m next ⊎ IsTurn m next → a.width + next ≡ stop

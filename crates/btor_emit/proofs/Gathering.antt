@@ -142,7 +142,7 @@ first_seat table places first p s e at =
     let same : get_or places first 0 ≡ p = get_or_from_slice_get places first p 0 at in
     ap (λ (q : ℕ). seat_at table q) (sym same) ∙ sym e ∙ later_none s
 
--- one place more behind a seat
+-- one more place after a seat
 pub stretch_more : (table : Table) (places : List ℕ) (first end : ℕ) (s : Seat) → first < end → IsStretch table places first end s → seat_at table (get_or places end 0) ≡ later s (end - first) → IsStretch table places first (end + 1) s
 stretch_more table places first end s some is new j k p e below at =
     elim (cases_lt k end) as (λ _. seat_at table p ≡ later s j) [

@@ -65,7 +65,7 @@ marked_then a b c P Q R from to m n = record {
   );
 }
 
--- the first so many of a list have it
+-- one of the first n of a list has it
 abbrev pub IsAmong : {A : Type 0} → List A → ℕ → (A → ℕ → Type 0) → ℕ → Type 0
 IsAmong {A} xs n P p = (k : ℕ) × (x : A) × (k < n) × (slice_get xs k ≡ Some x) × P x p
 
@@ -157,7 +157,7 @@ marked_read m marks is p (k, q, chain, used) = by k p chain
     by zero p e = subst (λ (x : ℕ). IsMarked marks x) (sym e) last
     by (suc n) p (r, c, rest) = is.copies p r c.0 c.1 c.2 (omega arith) c.3 c.4 c.5 c.6 (by n r rest)
 
--- the first so many places of a list whose copies were marked
+-- one of the first n places of a list, whose copy was marked
 abbrev pub IsCopyTo : List Bool → List ℕ → List ℕ → ℕ → ℕ → Type 0
 IsCopyTo old places copies n p = (k q : ℕ) × (k < n) × (slice_get places k ≡ Some p) × (slice_get copies k ≡ Some q) × IsMarked old q
 
@@ -198,7 +198,7 @@ copied_all old new places copies n e m = marked_as old new (IsCopyTo old places 
 pub marked_if : (old new : List Bool) (x y : ℕ) → IsMarked old y → Marks old new (λ p. p ≡ x) → Marks old new (λ p. (p ≡ x) × IsMarked old y)
 marked_if old new x y h m = marked_as old new (λ p. p ≡ x) (λ p. (p ≡ x) × IsMarked old y) (λ p e. (e, h)) (λ p e. e.0) m
 
--- what statements read, and so many registers
+-- what statements read, and the first i registers
 pub record AreUsed (m : ModelOf) (marks : List Bool) (i : ℕ) : Type 0 where
   pub size : length marks ≡ m.size
   pub sound : (p : ℕ) → IsMarked marks p → IsRead m p

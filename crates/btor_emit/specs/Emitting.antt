@@ -69,7 +69,7 @@ pub record IsStart (m : ModelOf) (e : BtorOf) (ss : List State) (t : TieOf) : Ty
   pub state : t.state ≡ s.word.nid
   pub value : (vs : Values) → Holds e vs → vs t.value ≡ start_of m s
 
--- the states of so many state bits
+-- the states of the first k state bits
 pub record AreStates (m : ModelOf) (e : BtorOf) (table : Table) (ss : List State) (k : ℕ) : Type 0 where
   pub btor : IsBtor e
   pub size : length table ≡ m.size

@@ -60,7 +60,7 @@ pub record AreParts (old new : BtorOf) (ss : List State) (from to : ℕ) (row : 
   pub before : (k : ℕ) (s : State) → from ≤ k → k < to → slice_get ss k ≡ Some s → s.first < end
   pub past : (s : State) → slice_get ss to ≡ Some s → end ≤ s.first
 
--- the first so many states have next what the model's state bits have
+-- the first k states have next what the model's state bits have
 pub record AreNexts (m : ModelOf) (old new : BtorOf) (before now : Table) (ss : List State) (k : ℕ) : Type 0 where
   pub ties : List TieOf
   pub only : OnlyTies old new (27 * bits_of (take k ss)) ties

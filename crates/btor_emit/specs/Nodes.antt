@@ -50,7 +50,7 @@ IsMove op.Concat = Unit {0}
 abbrev pub AreDone : ModelOf → Cycle → ℕ → Type 0
 AreDone m c i = (j : ℕ) (n : NodeOf) → j < i → slice_get m.nodes j ≡ Some n → row_at c n.y ≡ row_of_node c n
 
--- the first so many nodes were added, and sources have what they had
+-- the first i nodes were added, and sources have what they had
 pub record AreNodes (m : ModelOf) (old new : BtorOf) (before now : Table) (i : ℕ) : Type 0 where
   pub adds : Adds old new (12 * length (flat_map reads (take i m.nodes)) + 20 * i) (λ vs. AreDone m (cycle_of now vs) i)
   pub size : length now ≡ length before

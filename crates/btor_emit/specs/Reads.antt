@@ -26,7 +26,7 @@ IsUsed m p = IsNodeRead m p ⊎ IsRegisterRead m p ⊎ IsStatementRead m p
 abbrev pub IsCopied : ModelOf → ℕ → ℕ → Type 0
 IsCopied m p q = (i j : ℕ) × (n : NodeOf) × (slice_get m.nodes i ≡ Some n) × (n.op ≡ op.Copy) × (slice_get n.a j ≡ Some p) × (slice_get n.y j ≡ Some q)
 
--- q is a copy of p, or of a copy, and so on, by so many copies
+-- q is a copy of p, or of a copy, and so on, by this many copies
 abbrev pub IsCopiedBy : ModelOf → ℕ → ℕ → ℕ → Type 0
 IsCopiedBy m zero p q = p ≡ q
 IsCopiedBy m (suc k) p q = (r : ℕ) × IsCopied m p r × IsCopiedBy m k r q

@@ -10,7 +10,7 @@ use Rattle.model_core.specs.Shape.{ModelOf, states}
 use Rattle.btor_emit.specs.Reads.{AreReadInputs}
 use Rattle.btor_emit.specs.declared.shape.State.{State}
 
--- a register's bits end after so many state bits, or begin
+-- a register's bits end after k state bits, or begin
 abbrev pub IsEdge : ModelOf → ℕ → Type 0
 IsEdge m k = (i : ℕ) × (k ≡ length (flat_map (λ r. r.q) (take i m.registers)))
 

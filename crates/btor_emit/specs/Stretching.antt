@@ -1,16 +1,16 @@
--- Stretches of places that stand behind one another, and places that get new seats.
+-- Stretches of places that stand one after another, and places that get new seats.
 use Rattle.std.specs.Prelude.{◌≡◌, ◌⊎◌, ℕ, ◌+◌, ◌<◌, Bool, false, List, Some, Contains, length, slice_get}
 use Rattle.btor_core.specs.declared.line.Word.{Word}
 use Rattle.btor_emit.specs.declared.table.Seat.{Seat}
 use Rattle.btor_emit.specs.declared.table.Seat.TheVariants.{Bit, Digit}
 use Rattle.btor_emit.specs.Table.{Table, seat_at}
 
--- the seat so many bits behind
+-- the seat this many bits later
 abbrev pub later : Seat → ℕ → Seat
 later (Digit x) k = Digit x
 later (Bit w i) k = Bit w (i + k)
 
--- the places from one of the list to another stand behind the seat, one behind the other
+-- the places from one of the list to another stand after the seat, one after the other
 abbrev pub IsStretch : Table → List ℕ → ℕ → ℕ → Seat → Type 0
 IsStretch table places first end s = (j k p : ℕ) → first + j ≡ k → k < end → slice_get places k ≡ Some p → seat_at table p ≡ later s j
 

@@ -38,7 +38,7 @@ AreSeats m table = All (IsSeat m) table
 abbrev pub AreIn : Table → List ℕ → Type 0
 AreIn table places = All (λ p. p < length table) places
 
--- at most so many lines were added, by which P holds, and each place has what it had
+-- at most `most` lines were added, by which P holds, and each place has what it had
 pub record Turns (old new : BtorOf) (before now : Table) (most : ℕ) (P : Values → Type 0) : Type 0 where
   pub adds : Adds old new most P
   pub size : length now ≡ length before

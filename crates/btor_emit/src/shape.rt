@@ -3,7 +3,7 @@
 use btor_core::line::Word;
 use place_rows::Rows;
 
-/// A state of the lines: so many of the model's state bits as its word is wide.
+/// A state of the lines: as many of the model's state bits as its word is wide.
 #[derive(Clone, Copy, Debug, PartialEq, Eq)]
 pub struct State {
     pub word: Word,

@@ -29,7 +29,7 @@ fn seat_at(table: &[Seat], place: u32) -> Seat
     table[place as usize]
 }
 
-// Whether a seat is so many bits behind another.
+// Whether a seat is this many bits after another.
 fn follows(first: Seat, more: usize, seat: Seat) -> bool
     requires { more < 2 ^ 32 }
     ensures { IsTrue result → seat ≡ later first more }
@@ -42,7 +42,7 @@ fn follows(first: Seat, more: usize, seat: Seat) -> bool
     }
 }
 
-// Where the stretch ends that begins at this place of the list: bits of one word, one behind the other.
+// Where the stretch ends that begins at this place of the list: bits of one word, one after the other.
 fn stretch(table: &[Seat], places: &[u32], first: usize, seat: Seat) -> usize
     requires inside { AreIn table.now places.now }
     requires few { length places.now < 2 ^ 32 }

@@ -9,7 +9,7 @@ use Rattle.btor_text.specs.Steps.{GoesOn}
 use Rattle.btor_text.specs.declared.reading.BtorKind.{BtorKind}
 use Rattle.btor_text.proofs.Growing.{ReadsTo, reads_on}
 
--- so many lines are read as a model's, and the rest of the text follows
+-- this many lines are read as a model's, and the rest of the text follows
 pub record IsAt (bytes rest : List ℕ) (line : ℕ) (m : BtorOf) : Type 0 where
   pub before : List (List ℕ)
   pub cut : lines_of bytes ≡ before ++ lines_of rest

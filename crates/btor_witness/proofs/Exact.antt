@@ -1,4 +1,4 @@
--- What is read of bytes is what they come to.
+-- What is read of bytes is what is seen in them.
 use Rattle.std.proofs.Common.{◌≡◌, ◌⊎◌, ℕ, ◌+◌, ◌<◌, Bool, true, false, cond, eqb, ◌&&◌, List, [], ◌∷◌, ◌++◌, length, Option, Some, None, refl, ap, sym, ◌∙◌, subst, inl, inr, arith}
 use Rattle.std.specs.Prelude.{fold}
 use Rattle.std.specs.List.{AllByRecursion}
@@ -642,7 +642,7 @@ module _ (shape : ShapeOf) (most : ℕ) where
   end_kept w bytes x h (inl i) = subst (IsKept shape most x) (sym h) (kept_is x (after (fresh shape most) bytes) (holds_reads bytes x i))
   end_kept w bytes x h (inr i) = subst (IsKept shape most x) (sym h) (end_kept_at bytes x i)
 
--- bytes come to one thing
+-- one thing is seen in bytes
 pub one_seen : (shape : ShapeOf) (bytes : List ℕ) (a b : Seen) → IsSeen shape bytes a → IsSeen shape bytes b → a ≡ b
 one_seen shape bytes seen.More seen.More h i = refl
 one_seen shape bytes seen.More seen.Whole h (x, i) = absurd (h.0 x i)

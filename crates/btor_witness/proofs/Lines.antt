@@ -231,7 +231,7 @@ read_all ws n more bits (b ∷ word) (x ∷ row) (e, h) l =
     one (Some y) e (inl t) = let z = eqb-true more 0 t in absurd (omega arith)
     one (Some y) e (inr f) = let same : y ≡ x = cc in rw f (ap (λ (v : Bool). in_bits n (more - 1) (bits ++ v ∷ [])) same)
 
--- what a second word of bits comes to: nothing, or bits that fit
+-- what a second word of bits is read as: nothing, or bits that fit
 abbrev Bitted : ℕ → ℕ → List Bool → List ℕ → ScanOf → Type 0
 Bitted n more bits word s = (s.line ≡ line.Other) ⊎ ((row : List Bool) × AllZip IsBit word row × (length word ≤ more) × (s ≡ in_bits n (more - length word) (bits ++ row)))
 
@@ -302,7 +302,7 @@ number_complete ws n word row l h e =
     ap left (number_some ws n (length row) [] word l e ∙ read_all ws n (length row) [] word row h (omega arith))
     ∙ ap (λ (m : ℕ). left (in_bits n m row)) zero
 
--- what the words of a line come to
+-- what the words of a line are read as
 pub record IsRow (ws : List ℕ) (number bits : List ℕ) (n : ℕ) (row : List Bool) : Type 0 where
   pub is_number : IsNumber number n
   pub is_bits : AllZip IsBit bits row

@@ -25,7 +25,7 @@ words_after word (b ∷ bytes) = cond (is_blank b) (if_any word ++ words_after [
 abbrev pub words_of : List ℕ → List (List ℕ)
 words_of line = words_after [] line
 
--- one or more decimal digits; the greatest number of 64 bits stands for all past it, as no stream has so many frames and no model so many states
+-- one or more decimal digits; the greatest number of 64 bits stands for all past it, as no stream has that many frames and no model that many states
 pub record IsNumber (word : List ℕ) (n : ℕ) : Type 0 where
   pub some : 0 < length word
   pub digits : list_all is_digit word ≡ true

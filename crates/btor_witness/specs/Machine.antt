@@ -76,7 +76,7 @@ line_left line.Other = line.Other
 abbrev pub bit_of : ℕ → Option Bool
 bit_of b = cond (eqb b 49) (Some true) (cond (eqb b 48 || eqb b 120) (Some false) None)
 
--- a byte of the bits for number n, of which so many are still to come
+-- a byte of the bits for number n, of which this many are still to come
 abbrev pub read_bit : ScanOf → ℕ → ℕ → Option Bool → ScanOf
 read_bit s n more None = with_line s line.Other
 read_bit s n more (Some x) = cond (eqb more 0) (with_line s line.Other) (record { line = line.Bits n (more - 1); bits = s.bits ++ x ∷ [] })
@@ -168,7 +168,7 @@ line_entry (line.SymbolGap n) = Some (entry.Assign n)
 line_entry line.Other = None
 
 -- what is kept of frames: how many there were, the bits with which open states start, and those of the inputs in each of the first frames, at
--- most so many, one after the other
+-- most this many, one after the other
 pub record FramesOf : Type 0 where
   pub shape : ShapeOf
   pub most : ℕ
@@ -353,7 +353,7 @@ after w (b ∷ bytes) = after (turn w b) bytes
 abbrev pub StandsFor : ShapeOf → ℕ → WitnessesOf → List ℕ → Type 0
 StandsFor shape most w bytes = w ≡ after (fresh shape most) bytes
 
--- what they come to
+-- what is seen in them
 abbrev pub seen_by : Spot → Seen
 seen_by spot.Skipping = come.More
 seen_by spot.Found = come.More
@@ -367,7 +367,7 @@ seen_by spot.Lost = come.More
 abbrev pub so_far : WitnessesOf → Seen
 so_far w = seen_by w.reading.spot
 
--- what they come to where the stream ends: of the last line no more counts than that it is `sat`, or `.` after a frame
+-- what is seen in them where the stream ends: of the last line no more counts than that it is `sat`, or `.` after a frame
 abbrev pub is_sat : Option Entry → Bool
 is_sat None = false
 is_sat (Some entry.Sat) = true

@@ -1,4 +1,4 @@
--- What the bytes of a stream come to.
+-- What is seen in the bytes of a stream.
 use Rattle.std.specs.Prelude.{◌≡◌, ◌⊎◌, ℕ, false, eqb, List, [], ◌∷◌, ◌++◌, length}
 use Rattle.std.specs.List.{AllByRecursion}
 use Rattle.btor_witness.specs.Shape.{ShapeOf}

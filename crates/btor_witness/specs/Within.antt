@@ -17,7 +17,7 @@ HasFrame spot.Whole count = Unit {0}
 HasFrame (spot.Refused k) count = Unit {0}
 HasFrame spot.Lost count = Unit {0}
 
--- a line's bits are so many of the width of what has its number
+-- a line's bits are part of the width of what has its number, or all of it
 abbrev pub AreBitsOf : List ℕ → Line → List Bool → Type 0
 AreBitsOf ws line.Blank bits = bits ≡ []
 AreBitsOf ws (line.Word t) bits = bits ≡ []

@@ -44,7 +44,7 @@ impl Witnesses {
         self.take_bytes(piece)
     }
 
-    /// Takes the next piece of the stream, and answers what the bytes so far come to: More, Whole or BadWitness, which stay, whatever
+    /// Takes the next piece of the stream, and answers what is seen in the bytes so far: More, Whole or BadWitness, which stay, whatever
     /// follows. Out of memory is answered from then on. A stream has fewer than 2^64 bytes.
     pub fn feed(&mut self, piece: &[u8]) -> Result<Seen, AllocError>
         requires { self.old.taken + length piece.now < 2 ^ 64 }

@@ -20,13 +20,13 @@ pub fn ends_stay()
     ensures { (w : WitnessesOf) (bytes : List ℕ) → is_over w.reading.spot ≡ true → after w bytes ≡ w }
 {}
 
-/// Bytes are read as what they come to, by the lines of a witness, whether more may follow or the stream ends.
+/// Bytes are read as the lines of a witness, whether more may follow or the stream ends.
 pub fn bytes_are_read()
     ensures seen { (shape : ShapeOf) (most : ℕ) (bytes : List ℕ) → IsSeen shape bytes (so_far (after (fresh shape most) bytes)) }
     ensures fate { (shape : ShapeOf) (most : ℕ) (bytes : List ℕ) → IsFate shape bytes (ended (after (fresh shape most) bytes)) }
 {}
 
-/// Bytes come to one thing.
+/// Bytes are read in one way.
 pub fn bytes_come_to_one()
     ensures { (shape : ShapeOf) (bytes : List ℕ) (a b : Seen) → IsSeen shape bytes a → IsSeen shape bytes b → a ≡ b }
 {}

@@ -18,7 +18,7 @@ pub enum Line {
     /// In a later word of a line of bads, of which the first is this.
     Bads(u64, Token),
     BadsGap(u64),
-    /// In the bits for a number, of which so many are still to come.
+    /// In the bits for a number, of which this many are still to come.
     Bits(u64, u32),
     BitsGap(u64),
     /// In the symbol after them.

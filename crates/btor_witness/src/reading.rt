@@ -63,7 +63,7 @@ impl Reading {
         self.frames.into_chosen()
     }
 
-    // What the lines so far come to.
+    // What is seen in the lines so far.
     pub(crate) fn so_far(&self) -> Seen
         ensures { result ≡ seen_by self.now.spot }
     {
@@ -74,7 +74,7 @@ impl Reading {
         }
     }
 
-    // What they come to where the stream ends after so many bytes, the last line being this.
+    // What is seen in them where the stream ends after this many bytes, the last line being this.
     pub(crate) fn ended(&self, taken: u64, entry: Option<Entry>) -> Seen
         ensures { result ≡ ended_by taken self.now.spot entry }
     {

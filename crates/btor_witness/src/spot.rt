@@ -18,7 +18,7 @@ pub enum Spot {
     Lost,
 }
 
-/// What the bytes of a stream come to. A byte is told by its number in the stream, counted from 0.
+/// What is seen in the bytes of a stream. A byte is told by its number in the stream, counted from 0.
 #[derive(Clone, Copy, Debug, PartialEq, Eq)]
 pub enum Seen {
     /// Nothing yet.
@@ -27,7 +27,7 @@ pub enum Seen {
     Whole,
     /// The stream ended, and no line of it was `sat`.
     Unknown,
-    /// The stream ended after so many bytes, with a line `sat` and no whole witness.
+    /// The stream ended after this many bytes, with a line `sat` and no whole witness.
     EarlyEnd(u64),
     /// No witness goes on with the line that begins with this byte.
     BadWitness(u64),

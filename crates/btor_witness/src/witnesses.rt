@@ -54,7 +54,7 @@ fn before_feed(bytes: &[u8]) -> usize
 }
 
 impl Witnesses {
-    /// Before the first byte of a stream. Of at most so many frames what they choose is kept; those past them are counted.
+    /// Before the first byte of a stream. Of at most this many frames what they choose is kept; those past them are counted.
     pub fn new(alloc: Global, shape: Shape, most: u64) -> Result<Witnesses, AllocError>
         ensures { IfOk result (λ w. w ≡ fresh (record { states = shape.states; inputs = shape.inputs }) most) }
     {
@@ -96,14 +96,14 @@ impl Witnesses {
         self.reading.into_chosen()
     }
 
-    // What the bytes so far come to.
+    // What is seen in the bytes so far.
     pub(crate) fn so_far(&self) -> Seen
         ensures { result ≡ so_far self.now }
     {
         self.reading.so_far()
     }
 
-    // What they come to where the stream ends.
+    // What is seen in them where the stream ends.
     pub(crate) fn ended(&self) -> Seen
         ensures { result ≡ ended self.now }
     {

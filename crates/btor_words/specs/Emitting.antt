@@ -7,13 +7,13 @@ use Rattle.btor_core.specs.Fits.{IsBtor, IsWidth}
 use Rattle.btor_core.specs.Growth.{Grows, KeepsLists}
 use Rattle.btor_core.specs.declared.line.Word.{Word}
 
--- a line of a model that has a value, so many bits wide
+-- a line of a model that has a value of its width
 pub record IsWord (m : BtorOf) (a : Word) : Type 0 where
   pub btor : IsBtor m
   pub size : IsWidth a.width
   pub width : width_at m.lines a.nid ≡ a.width
 
--- at most so many lines were added, none of them an input or a state, by which P holds of all values
+-- at most `most` lines were added, none of them an input or a state, by which P holds of all values
 pub record Adds (old new : BtorOf) (most : ℕ) (P : Values → Type 0) : Type 0 where
   pub btor : IsBtor new
   pub grows : Grows old new

@@ -14,7 +14,7 @@ ghost use Rattle.btor_words.specs.Lining.{Lines};
 use btor_core::draft::{Draft, DraftFault};
 use btor_core::line::{Binary, Node, Unary, Word};
 
-// A line of so many bits.
+// A line of this many bits.
 pub(crate) fn line(draft: &mut Draft, width: u32, node: Node) -> Result<Word, DraftFault>
     requires width { IsWidth width }
     requires fits { NodeFits draft.old.constants draft.old.lines width node }

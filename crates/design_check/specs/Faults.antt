@@ -73,7 +73,7 @@ IsMixed c = (asks_one_sign c.kind ≡ true) × (flag c ASigned ≢ flag c BSigne
 abbrev pub clock_of : CellOf → List SigBit
 clock_of c = signal_at c.ports Clk
 
--- two registers go by one edge of one net
+-- two registers are clocked by one edge of one net
 pub record IsOneClock (d : DesignOf) (c e : CellOf) : Type 0 where
   pub net : (a : SigBit) × (b : SigBit) × (clock_of c ≡ a ∷ []) × (clock_of e ≡ b ∷ []) × IsOneNet d a b
   pub edge : flag c ClkPolarity ≡ flag e ClkPolarity
@@ -141,16 +141,16 @@ abbrev pub wire_or_dash : DesignOf → Option ℕ → List ℕ
 wire_or_dash d (Some w) = wire_name d w
 wire_or_dash d None = codes "-"
 
--- a connect goes by the wire of its highest wire bit, the left signal before the right one, or by - where it has none
+-- a connect is named by the wire of its highest wire bit, the left signal before the right one, or by - where it has none
 abbrev pub connect_name : DesignOf → ConnectOf → List ℕ
 connect_name d j = wire_or_dash d (first_some (highest_wire j.left) (highest_wire j.right))
 
--- a cell goes by its name
+-- a cell is named by its own name
 abbrev pub NamesItem : DesignOf → Item → List ℕ → Type 0
 NamesItem d (Cell i) name = (c : CellOf) × IsCell d i c × (name ≡ c.name)
 NamesItem d (Connect k) name = (j : ConnectOf) × (slice_get d.connects k ≡ Some j) × (name ≡ connect_name d j)
 
--- a wire's bit goes by its own name, any other by what drives it
+-- a wire's bit is named by itself, any other bit by what drives it
 abbrev pub NamesBit : DesignOf → Item → SigBit → List ℕ → Type 0
 NamesBit d e (WireBit w b) name = name ≡ bit_name d w b
 NamesBit d e (Const b) name = NamesItem d e name

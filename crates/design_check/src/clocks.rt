@@ -54,7 +54,7 @@ fn is_one_clock_net(design: &Design, leaders: &[usize], left: &[Chunk], right: &
     }
 }
 
-// Whether two registers go by one edge of one net.
+// Whether two registers are clocked by one edge of one net.
 fn is_one_clock(design: &Design, leaders: &[usize], first: &Cell, other: &Cell) -> bool
     requires nets { IsNets design.now leaders.now }
     requires first { IsCellOf design.now.wires design.now.free first.now }

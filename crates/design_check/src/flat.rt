@@ -222,7 +222,7 @@ fn kept_width(cell: &Cell) -> u128
     ensures few { result < 2 ^ 96 }
 {
     match role_of(cell.kind()) {
-        Role::ResetRegister => bit_count(cell.output()),
+        Role::AsyncResetRegister => bit_count(cell.output()),
         _ => 0,
     }
 }

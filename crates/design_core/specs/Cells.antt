@@ -11,7 +11,7 @@ use Rattle.design_core.specs.declared.names.PortName.TheVariants.{A, B, S, En, D
 use Rattle.design_core.specs.declared.names.ParameterName.{ParameterName}
 use Rattle.design_core.specs.declared.names.ParameterName.TheVariants.{ASigned, AWidth, BSigned, BWidth, YWidth, Width, Offset, EnPolarity, SrstPolarity, SrstValue, ArstPolarity, ArstValue}
 use Rattle.design_core.specs.declared.table.Role.{Role}
-use Rattle.design_core.specs.declared.table.Role.TheVariants.{Combinational, Register, ResetRegister, Constant, Initial, Source, Statement, Unsupported}
+use Rattle.design_core.specs.declared.table.Role.TheVariants.{Combinational, Register, AsyncResetRegister, Constant, Initial, Source, Statement, Unsupported}
 use Rattle.design_core.specs.declared.next.NextState.{NextState}
 use Rattle.design_core.specs.declared.next.NextState.TheVariants.{Data, ResetValue, Held, Zero, Stateless}
 
@@ -117,7 +117,7 @@ is_enabled p i = is_active (p EnPolarity) (i En)
 abbrev pub is_reset : Role → Parameters → Ports → Bool
 is_reset Combinational p i = false
 is_reset Register p i = is_active (p SrstPolarity) (i Srst)
-is_reset ResetRegister p i = is_active (p ArstPolarity) (i Arst)
+is_reset AsyncResetRegister p i = is_active (p ArstPolarity) (i Arst)
 is_reset Constant p i = false
 is_reset Initial p i = false
 is_reset Source p i = false
@@ -127,7 +127,7 @@ is_reset Unsupported p i = false
 abbrev pub reset_value : Role → Parameters → Row
 reset_value Combinational p = []
 reset_value Register p = p SrstValue
-reset_value ResetRegister p = p ArstValue
+reset_value AsyncResetRegister p = p ArstValue
 reset_value Constant p = []
 reset_value Initial p = []
 reset_value Source p = []

@@ -12,7 +12,7 @@ use Rattle.design_core.specs.declared.names.PortName.TheVariants.{A, B, S, En, Y
 use Rattle.design_core.specs.declared.names.ParameterName.{ParameterName}
 use Rattle.design_core.specs.declared.names.ParameterName.TheVariants.{ASigned, AWidth, BSigned, BWidth, YWidth, Width as WidthP, SWidth, Offset, ClkPolarity, EnPolarity, SrstPolarity, SrstValue, ArstPolarity, ArstValue}
 use Rattle.design_core.specs.declared.table.Role.{Role}
-use Rattle.design_core.specs.declared.table.Role.TheVariants.{Combinational, Register, ResetRegister, Constant, Initial, Source, Statement, Unsupported}
+use Rattle.design_core.specs.declared.table.Role.TheVariants.{Combinational, Register, AsyncResetRegister, Constant, Initial, Source, Statement, Unsupported}
 use Rattle.design_core.specs.declared.table.ParameterForm.{ParameterForm}
 use Rattle.design_core.specs.declared.table.ParameterForm.TheVariants.{Flag, Number, Width, Value}
 use Rattle.design_core.specs.declared.table.PortWidth.{PortWidth}
@@ -42,8 +42,8 @@ role_of Dffe = Register
 role_of Sdff = Register
 role_of Sdffe = Register
 role_of Sdffce = Register
-role_of Adff = ResetRegister
-role_of Adffe = ResetRegister
+role_of Adff = AsyncResetRegister
+role_of Adffe = AsyncResetRegister
 role_of (StatementCell k) = Statement
 role_of (AnyCell AnyConst) = Constant
 role_of (AnyCell AnySeq) = Source
@@ -55,7 +55,7 @@ role_of Unknown = Unsupported
 abbrev pub output_port : Role → Option PortName
 output_port Combinational = Some Y
 output_port Register = Some Q
-output_port ResetRegister = Some Q
+output_port AsyncResetRegister = Some Q
 output_port Constant = Some Y
 output_port Initial = Some Y
 output_port Source = Some Y
@@ -292,7 +292,7 @@ is_input Arst = true
 abbrev pub ports_in_cycle : Role → List PortName → List PortName
 ports_in_cycle Combinational names = filter is_input names
 ports_in_cycle Register names = []
-ports_in_cycle ResetRegister names = Arst ∷ []
+ports_in_cycle AsyncResetRegister names = Arst ∷ []
 ports_in_cycle Constant names = []
 ports_in_cycle Initial names = []
 ports_in_cycle Source names = []

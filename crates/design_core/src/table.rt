@@ -24,7 +24,7 @@ pub enum Role {
     /// Its output is what it holds from the cycle before.
     Register,
     /// A register whose reset shows at its output at once: it holds a row of its own.
-    ResetRegister,
+    AsyncResetRegister,
     /// Its output is one value for the run.
     Constant,
     /// Its output tells the first cycle.
@@ -188,7 +188,7 @@ pub fn role_of(kind: Kind) -> Role
         | Kind::Concat => Role::Combinational,
         Kind::Ff | Kind::Dff | Kind::Dffe | Kind::Sdff | Kind::Sdffe | Kind::Sdffce =>
             Role::Register,
-        Kind::Adff | Kind::Adffe => Role::ResetRegister,
+        Kind::Adff | Kind::Adffe => Role::AsyncResetRegister,
         Kind::Any(Any::Const) => Role::Constant,
         Kind::InitState => Role::Initial,
         Kind::Any(Any::Seq) => Role::Source,
@@ -203,7 +203,7 @@ pub fn output_port(role: Role) -> Option<PortName>
 {
     match role {
         Role::Combinational | Role::Constant | Role::Initial | Role::Source => Some(PortName::Y),
-        Role::Register | Role::ResetRegister => Some(PortName::Q),
+        Role::Register | Role::AsyncResetRegister => Some(PortName::Q),
         Role::Statement | Role::Unsupported => None,
     }
 }

@@ -1,5 +1,5 @@
 -- Edges as they are added, one loop's turn after the other.
-use Rattle.std.proofs.Common.{◌≡◌, ◌⊎◌, inl, inr, ℕ, zero, suc, ◌+◌, ◌<◌, ◌≤◌, List, [], ◌∷◌, ◌++◌, ◌↔◌, take, length, get_or, Some, All, refl, ap, subst, sym, ◌∙◌, arith}
+use Rattle.std.proofs.Common.{◌≡◌, ◌⊎◌, inl, inr, ℕ, zero, suc, ◌+◌, ◌<◌, ◌≤◌, List, [], ◌∷◌, ◌++◌, ◌↔◌, take, length, get_or, Some, All, Bool, true, false, cond, refl, ap, subst, sym, ◌∙◌, arith}
 use Rattle.std.specs.Prelude.{slice_get}
 use Rattle.std.proofs.lemmas.Bool.{cases_lt}
 use Rattle.std.proofs.lemmas.Option.{slice_get_within}
@@ -46,11 +46,17 @@ module _ {X : Type 0} (xs : List X) (Q : ℕ → X → ℕ → ℕ → Type 0) w
       Extends-as g h (Upto i) T e (λ p q u. to u.0 u.1 p q u.3 u.4)
       (λ p q t. let r = from p q t in (r.0, r.1, omega (arith, slice_get_within xs r.0 r.1 r.2), r.2, r.3))
 
-abbrev pub DownUpto : DesignOf → List ConnectOf → ℕ → ℕ → ℕ → Type 0
-DownUpto d connects i p q = Upto connects (λ k j p q. IsPair d j.left j.right p q) i p q
+-- the edges of a connect, down from what it drives or up to it
+abbrev pub IsSidePair : DesignOf → Bool → ConnectOf → ℕ → ℕ → Type 0
+IsSidePair d up j p q = IsPair d (cond up j.right j.left) (cond up j.left j.right) p q
 
-abbrev pub UpUpto : DesignOf → List ConnectOf → ℕ → ℕ → ℕ → Type 0
-UpUpto d connects i p q = Upto connects (λ k j p q. IsPair d j.right j.left p q) i p q
+abbrev pub SidesUpto : DesignOf → Bool → List ConnectOf → ℕ → ℕ → ℕ → Type 0
+SidesUpto d up connects i p q = Upto connects (λ k j p q. IsSidePair d up j p q) i p q
+
+pub Sides-end : (d : DesignOf) (up : Bool) (connects : List ConnectOf) (g h : Graph) (i : ℕ) → length connects ≤ i → Extends g (SidesUpto d up connects i) h
+    → Extends g (cond up (IsUp d connects) (IsDown d connects)) h
+Sides-end d true connects g h i most e = Upto-end connects (λ k j p q. IsSidePair d true j p q) g h i (IsUp d connects) most e (λ k j p q at s. (k, j, at, s)) (λ p q t. t)
+Sides-end d false connects g h i most e = Upto-end connects (λ k j p q. IsSidePair d false j p q) g h i (IsDown d connects) most e (λ k j p q at s. (k, j, at, s)) (λ p q t. t)
 
 -- the ports before place i
 abbrev pub PortsUpto : DesignOf → CellOf → ℕ → ℕ → ℕ → ℕ → Type 0

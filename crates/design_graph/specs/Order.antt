@@ -4,7 +4,7 @@ use Rattle.design_core.specs.Asked.{output_of}
 use Rattle.design_core.specs.Shape.{CellOf, ConnectOf, DesignOf}
 use Rattle.design_core.specs.Table.{role_of}
 use Rattle.design_core.specs.declared.table.Role.{Role}
-use Rattle.design_core.specs.declared.table.Role.TheVariants.{Combinational, Register, ResetRegister, Constant, Initial, Source, Statement, Unsupported}
+use Rattle.design_core.specs.declared.table.Role.TheVariants.{Combinational, Register, AsyncResetRegister, Constant, Initial, Source, Statement, Unsupported}
 use Rattle.design_meaning.specs.Meaning.{IsCell}
 use Rattle.design_meaning.specs.Rests.{IsPortBit, IsResetBit, Rests}
 use Rattle.design_signals.specs.declared.sig_bit.SigBit.{SigBit}
@@ -15,7 +15,7 @@ use Rattle.design_graph.specs.declared.driver.Driver.TheVariants.{Cell, Connect}
 abbrev pub is_in_cycle : Role → Bool
 is_in_cycle Combinational = true
 is_in_cycle Register = false
-is_in_cycle ResetRegister = true
+is_in_cycle AsyncResetRegister = true
 is_in_cycle Constant = false
 is_in_cycle Initial = false
 is_in_cycle Source = false

@@ -1,13 +1,14 @@
 // A design's bits as nodes of graphs.
 
-ghost use Rattle.std.specs.Prelude.{◌≡◌, ◌+◌, ◌≤◌, ◌<◌, ℕ, All, IfOk, OnOk, length};
+ghost use Rattle.std.specs.Prelude.{◌≡◌, ◌+◌, ◌≤◌, ◌<◌, ℕ, All, IfOk, OnOk, cond, length};
 ghost use Rattle.digraph.specs.Graph.{Extends};
 ghost use Rattle.design_core.specs.Places.{places};
-ghost use Rattle.design_core.specs.Shape.{IsCellOf, IsDeclared, IsDesign, IsNumbered};
+ghost use Rattle.design_core.specs.Shape.{IsCellOf, IsConnectOf, IsDeclared, IsDesign, IsNumbered};
 ghost use Rattle.design_signals.specs.Chunks.{IsChunk, bits_of};
 ghost use Rattle.design_graph.specs.Edges.{IsCellEdge, IsCellsEdge, IsDigitPlace, IsDown, IsNetGraph, IsPair, IsPlaceIn, IsPortPlace, IsResetPlace, IsRestGraph, IsUp};
 
 use design_core::cell::Cell;
+use design_core::connect::Connect;
 use design_core::design::Design;
 use design_core::digit::{Constant, Digit};
 use design_core::names::ParameterName;
@@ -43,17 +44,42 @@ fn add_pairs(
     Ok(())
 }
 
-// Adds an edge from what each connect drives to what it drives it from.
-fn add_down(design: &Design, graph: &mut [Vec<usize>]) -> Result<(), AllocError>
+// Adds an edge from each bit of one side of a connect to the bit beside it in the other: down from what it drives, or up to it.
+fn add_connect(
+    design: &Design,
+    connect: &Connect,
+    up: bool,
+    graph: &mut [Vec<usize>],
+) -> Result<(), AllocError>
+    requires connect { IsConnectOf design.now.wires design.now.free connect.now }
     requires nodes { places design.now ≤ length graph.old }
-    ensures { OnOk result (Extends graph.old (IsDown design.now design.now.connects) graph.new) }
+    ensures { OnOk result (Extends graph.old (IsPair design.now (cond up connect.now.right connect.now.left) (cond up connect.now.left connect.now.right)) graph.new) }
+{
+    if up {
+        add_pairs(design, connect.right(), connect.left(), graph)
+    } else {
+        add_pairs(design, connect.left(), connect.right(), graph)
+    }
+}
+
+// Adds the edges of each connect.
+fn add_connects(design: &Design, up: bool, graph: &mut [Vec<usize>]) -> Result<(), AllocError>
+    requires nodes { places design.now ≤ length graph.old }
+    ensures { OnOk result (Extends graph.old (cond up (IsUp design.now design.now.connects) (IsDown design.now design.now.connects)) graph.new) }
 {
     let connects = design.connects();
     for place in 0..connects.len() {
-        let connect = &connects[place];
-        add_pairs(design, connect.left(), connect.right(), graph)?;
+        add_connect(design, &connects[place], up, graph)?;
     }
     Ok(())
+}
+
+/// Adds an edge from what each connect drives to what it drives it from.
+pub fn add_down(design: &Design, graph: &mut [Vec<usize>]) -> Result<(), AllocError>
+    requires nodes { places design.now ≤ length graph.old }
+    ensures { OnOk result (Extends graph.old (IsDown design.now design.now.connects) graph.new) }
+{
+    add_connects(design, false, graph)
 }
 
 // Adds the same edges the other way.
@@ -61,12 +87,7 @@ fn add_up(design: &Design, graph: &mut [Vec<usize>]) -> Result<(), AllocError>
     requires nodes { places design.now ≤ length graph.old }
     ensures { OnOk result (Extends graph.old (IsUp design.now design.now.connects) graph.new) }
 {
-    let connects = design.connects();
-    for place in 0..connects.len() {
-        let connect = &connects[place];
-        add_pairs(design, connect.right(), connect.left(), graph)?;
-    }
-    Ok(())
+    add_connects(design, true, graph)
 }
 
 // The graph of what connects join.
@@ -166,7 +187,7 @@ fn add_reset(
     requires node { node < length graph.old }
     ensures { OnOk result (Extends graph.old (λ p q. (p ≡ node) × IsResetPlace design.now cell.now q) graph.new) }
 {
-    let Role::ResetRegister = role_of(cell.kind()) else {
+    let Role::AsyncResetRegister = role_of(cell.kind()) else {
         return Ok(());
     };
     match cell.parameter(ParameterName::ArstValue) {

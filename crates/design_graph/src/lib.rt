@@ -3,7 +3,7 @@
 
 pub mod driver;
 pub mod drivers;
-mod edges;
+pub mod edges;
 pub mod item;
 pub mod loops;
 pub mod nets;

@@ -23,7 +23,10 @@ use std::alloc::{AllocError, Global};
 pub fn is_in_cycle(kind: Kind) -> bool
     ensures { result ≡ is_in_cycle (role_of kind) }
 {
-    matches!(role_of(kind), Role::Combinational | Role::ResetRegister)
+    matches!(
+        role_of(kind),
+        Role::Combinational | Role::AsyncResetRegister
+    )
 }
 
 // A table without drivers.

@@ -32,7 +32,7 @@ pub struct StartMarks {
 pub fn is_register(kind: Kind) -> bool
     ensures { result ≡ is_register (role_of kind) }
 {
-    matches!(role_of(kind), Role::Register | Role::ResetRegister)
+    matches!(role_of(kind), Role::Register | Role::AsyncResetRegister)
 }
 
 // Marks the bits that a register drives.

@@ -11,7 +11,7 @@ use Rattle.design_core.specs.Asked.{number_at, output_of}
 use Rattle.design_core.specs.Shape.{WireOf, CellOf, DesignOf, IsConnectOf, IsDeclared}
 use Rattle.design_core.specs.Table.{role_of}
 use Rattle.design_core.specs.declared.names.ParameterName.TheVariants.{Width}
-use Rattle.design_core.specs.declared.table.Role.TheVariants.{Combinational, Register, ResetRegister, Initial}
+use Rattle.design_core.specs.declared.table.Role.TheVariants.{Combinational, Register, AsyncResetRegister, Initial}
 use Rattle.design_core.proofs.Designs.{slice_get-append}
 use Rattle.design_core.proofs.Lists.{Contains-from_place, one_at}
 use Rattle.design_graph.proofs.Declared.{outputs-declared}
@@ -177,7 +177,7 @@ module _ (d : DesignOf) (wired : IsWired d) (i : ℕ) (c : CellOf) (at : IsCell 
             ∙ s.digits j k z x (other-there d i c at wire j z there n) (other-to j z there n k x start)
       ];
       initial = λ j z there role. elim (place-cases d i c at wire j z there) as (λ _. held_row v j z ≡ true ∷ []) [
-        | inl e ↦ let r : ResetRegister ≡ Initial = sym fits.role ∙ (ap (λ (y : CellOf). role_of y.kind) (sym e.1) ∙ role) in absurd cc
+        | inl e ↦ let r : AsyncResetRegister ≡ Initial = sym fits.role ∙ (ap (λ (y : CellOf). role_of y.kind) (sym e.1) ∙ role) in absurd cc
         | inr n ↦ same-held d wired i c at fits wire v w seen j z there n ∙ s.initial j z (other-there d i c at wire j z there n) role
       ];
     }

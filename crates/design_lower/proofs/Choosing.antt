@@ -10,7 +10,7 @@ use Rattle.design_core.specs.declared.digit.Digit.{Digit}
 use Rattle.design_core.specs.declared.digit.Digit.TheVariants.{Const as ConstDigit, Free as FreeDigit, Marker}
 use Rattle.design_core.specs.declared.names.PortName.TheVariants.{Arst}
 use Rattle.design_core.specs.declared.names.ParameterName.TheVariants.{ArstPolarity, ArstValue}
-use Rattle.design_core.specs.declared.table.Role.TheVariants.{ResetRegister}
+use Rattle.design_core.specs.declared.table.Role.TheVariants.{AsyncResetRegister}
 use Rattle.design_check.specs.Faults.{flag}
 use Rattle.design_meaning.specs.Meaning.{Valuation, row_in, digit_in, digits_in, parameters_in, ports_in}
 use Rattle.design_lower.specs.Lowering.{FitsReset, digit_bit, digits_or_none, kept_signal, reset_signal, shown}
@@ -18,7 +18,7 @@ use Rattle.design_lower.proofs.Fitting.{flag-set, has-reset}
 
 -- the cell is reset in w
 abbrev pub reset_in : Valuation → CellOf → Bool
-reset_in w c = is_reset ResetRegister (parameters_in w c) (ports_in w c)
+reset_in w c = is_reset AsyncResetRegister (parameters_in w c) (ports_in w c)
 
 module _ (w : Valuation) where
   digits-bits : (xs : List Digit) → row_in w (map digit_bit xs) ≡ map (digit_in w) xs
@@ -46,7 +46,7 @@ module _ (w : Valuation) where
   chosen false true x y = refl
   chosen false false x y = refl
 
-  -- the `$mux` gives ARST_VALUE while the cell is reset, else the kept row
+  -- the `$mux` gives ARST_VALUE while the cell is reset, else the stored row
   pub shown-gives : (n : ℕ) (c : CellOf) → FitsReset c
       → cell_fn Mux (parameters_in w (shown n c)) (ports_in w (shown n c)) ≡ cond (reset_in w c) (row_in w (reset_signal c)) (row_in w (kept_signal n c))
   shown-gives n c fits =

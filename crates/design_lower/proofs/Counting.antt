@@ -13,7 +13,7 @@ use Rattle.design_core.specs.Places.{place_of}
 use Rattle.design_core.specs.Shape.{CellOf, DesignOf, IsDeclared, IsDesign, wire_bits}
 use Rattle.design_core.specs.Table.{role_of}
 use Rattle.design_core.specs.declared.table.Role.{Role}
-use Rattle.design_core.specs.declared.table.Role.TheVariants.{Combinational, Register, ResetRegister, Constant, Initial, Source, Statement, Unsupported}
+use Rattle.design_core.specs.declared.table.Role.TheVariants.{Combinational, Register, AsyncResetRegister, Constant, Initial, Source, Statement, Unsupported}
 use Rattle.design_core.proofs.Places.{place_of-same, place_of-wire}
 use Rattle.design_graph.specs.Items.{DrivesBit}
 use Rattle.design_graph.specs.declared.item.Item.TheVariants.{Cell}
@@ -29,10 +29,10 @@ use Rattle.design_lower.proofs.Flatness.{flat-once}
 use Rattle.design_lower.proofs.Lists.{get-either}
 use Rattle.design_lower.proofs.Rooms.{wide}
 
-is-reset : (r : Role) → (r ≡ ResetRegister) ⊎ (r ≡ ResetRegister → ⊥)
+is-reset : (r : Role) → (r ≡ AsyncResetRegister) ⊎ (r ≡ AsyncResetRegister → ⊥)
 is-reset Combinational = inr (λ e. absurd cc)
 is-reset Register = inr (λ e. absurd cc)
-is-reset ResetRegister = inl refl
+is-reset AsyncResetRegister = inl refl
 is-reset Constant = inr (λ e. absurd cc)
 is-reset Initial = inr (λ e. absurd cc)
 is-reset Source = inr (λ e. absurd cc)

@@ -20,12 +20,12 @@ use Rattle.design_core.specs.declared.names.ParameterName.TheVariants.{Width, En
 use Rattle.design_core.specs.declared.parts.Parameter.{Parameter}
 use Rattle.design_core.specs.declared.table.PortLine.{PortLine}
 use Rattle.design_core.specs.declared.table.PortWidth.TheVariants.{One, Of}
-use Rattle.design_core.specs.declared.table.Role.TheVariants.{ResetRegister}
+use Rattle.design_core.specs.declared.table.Role.TheVariants.{AsyncResetRegister}
 use Rattle.design_meaning.specs.Meaning.{Valuation, digit_in, digits_in}
 use Rattle.design_lower.specs.Asks.{HasReset, HasSignal, HasSignals}
 use Rattle.design_lower.specs.Lowering.{FitsReset}
 
-pub kind-cases : (k : Kind) → role_of k ≡ ResetRegister → (k ≡ Adff) ⊎ (k ≡ Adffe)
+pub kind-cases : (k : Kind) → role_of k ≡ AsyncResetRegister → (k ≡ Adff) ⊎ (k ≡ Adffe)
 kind-cases (UnaryCell k) h = absurd cc
 kind-cases (BinaryCell k) h = absurd cc
 kind-cases (ReduceCell k) h = absurd cc

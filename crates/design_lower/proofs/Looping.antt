@@ -16,7 +16,7 @@ use Rattle.design_core.specs.declared.digit.Digit.TheVariants.{Const as ConstDig
 use Rattle.design_core.specs.declared.names.PortName.{PortName}
 use Rattle.design_core.specs.declared.names.PortName.TheVariants.{A, B, S, Arst}
 use Rattle.design_core.specs.declared.names.ParameterName.TheVariants.{ArstPolarity, ArstValue, Width}
-use Rattle.design_core.specs.declared.table.Role.TheVariants.{Combinational, Register, ResetRegister}
+use Rattle.design_core.specs.declared.table.Role.TheVariants.{Combinational, Register, AsyncResetRegister}
 use Rattle.design_core.proofs.Lists.{Contains-from_place, one_at, place-from_Contains}
 use Rattle.design_check.specs.Faults.{flag}
 use Rattle.design_meaning.specs.Meaning.{IsCell}
@@ -123,12 +123,12 @@ module _ (d : DesignOf) (wired : IsWired d) (i : ℕ) (c : CellOf) (at : IsCell 
 
       by : (x : CellOf) → role_of x.kind ≡ Register → IsPortBit x b ⊎ IsResetBit x b → ⊥
       by x role (inl g) = none (role_of x.kind) (map (λ (l : PortLine). l.name) (ports_of x.kind)) role g.0 g.1
-      by x role (inr g) = let clash : Register ≡ ResetRegister = sym role ∙ g.0 in absurd cc
+      by x role (inr g) = let clash : Register ≡ AsyncResetRegister = sym role ∙ g.0 in absurd cc
 
   -- what the `$mux` reads
   muxed : (b : SigBit) → IsPortBit (shown (length d.wires) c) b ⊎ IsResetBit (shown (length d.wires) c) b
       → Contains (reset_signal c) b ⊎ (Contains (kept_signal (length d.wires) c) b ⊎ Contains (signal_at c.ports Arst) b)
-  muxed b (inr g) = let clash : Combinational ≡ ResetRegister = g.0 in absurd cc
+  muxed b (inr g) = let clash : Combinational ≡ AsyncResetRegister = g.0 in absurd cc
   muxed b (inl g) = let q = place-from_Contains (A ∷ B ∷ S ∷ []) g.0 g.1 in by q.0 q.1
     where
       low : (f : Bool) → Contains (cond f (kept_signal (length d.wires) c) (reset_signal c)) b

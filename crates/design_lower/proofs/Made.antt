@@ -12,7 +12,7 @@ use Rattle.design_core.specs.declared.names.PortName.TheVariants.{Arst, D, En}
 use Rattle.design_core.specs.declared.names.ParameterName.TheVariants.{ArstPolarity, ArstValue, EnPolarity, SrstPolarity, SrstValue}
 use Rattle.design_core.specs.declared.next.NextState.TheVariants.{Data, ResetValue, Held}
 use Rattle.design_core.specs.declared.table.Role.{Role}
-use Rattle.design_core.specs.declared.table.Role.TheVariants.{Combinational, Register, ResetRegister, Constant, Initial, Source, Statement, Unsupported}
+use Rattle.design_core.specs.declared.table.Role.TheVariants.{Combinational, Register, AsyncResetRegister, Constant, Initial, Source, Statement, Unsupported}
 use Rattle.design_meaning.specs.Meaning.{Valuation, Frame, Follows, IsCell, bit_in, row_in, parameters_in, ports_in, kept_row, shown_row, held_row, row_of_role}
 use Rattle.design_lower.specs.Lowering.{FitsReset, enabled_register, kept_signal, plain_register, register, reset_signal, shown, with_lowered}
 use Rattle.design_lower.proofs.Alike.{IsWired, cell-wired, connect-wired, output-alike, parameters-alike, ports-alike, row-alike}
@@ -23,7 +23,7 @@ use Rattle.design_lower.proofs.Choosing.{digits-kept, reset-row, reset_in, shown
 abbrev pub IsMade : ℕ → CellOf → Valuation → Type 0
 IsMade n c w = row_in w (output_of c) ≡ cond (reset_in w c) (row_in w (reset_signal c)) (row_in w (kept_signal n c))
 
--- v is w, looked at on d: its bits, the row that the lowered cell keeps, and the other kept rows
+-- v is w, looked at on d: its bits, the row that the lowered cell keeps, and the other stored rows
 pub record IsSeenOnce (d : DesignOf) (i : ℕ) (c : CellOf) (v w : Valuation) : Type 0 where
   pub bits : (b : SigBit) → IsDeclared d.wires d.free b → bit_in v b ≡ bit_in w b
   pub row : kept_row v i c ≡ row_in w (kept_signal (length d.wires) c)
@@ -89,12 +89,12 @@ module _ (d : DesignOf) (wired : IsWired d) (i : ℕ) (c : CellOf) (at : IsCell 
       same-fn : cell_fn x.kind (parameters_in v x) (ports_in v x) ≡ cell_fn x.kind (parameters_in w x) (ports_in w x)
       same-fn = ap (λ (q : Ports). cell_fn x.kind (parameters_in v x) q) same-ports ∙ ap (λ (p : Parameters). cell_fn x.kind p (ports_in w x)) same-parameters
 
-      same-shown : (r s : Row) → r ≡ s → cond (is_reset ResetRegister (parameters_in v x) (ports_in v x)) (reset_value ResetRegister (parameters_in v x)) r
-          ≡ cond (is_reset ResetRegister (parameters_in w x) (ports_in w x)) (reset_value ResetRegister (parameters_in w x)) s
+      same-shown : (r s : Row) → r ≡ s → cond (is_reset AsyncResetRegister (parameters_in v x) (ports_in v x)) (reset_value AsyncResetRegister (parameters_in v x)) r
+          ≡ cond (is_reset AsyncResetRegister (parameters_in w x) (ports_in w x)) (reset_value AsyncResetRegister (parameters_in w x)) s
       same-shown r s e =
-          ap (λ (q : Ports). cond (is_reset ResetRegister (parameters_in v x) q) (reset_value ResetRegister (parameters_in v x)) r) same-ports
-          ∙ (ap (λ (p : Parameters). cond (is_reset ResetRegister p (ports_in w x)) (reset_value ResetRegister p) r) same-parameters
-          ∙ ap (λ (y : Row). cond (is_reset ResetRegister (parameters_in w x) (ports_in w x)) (reset_value ResetRegister (parameters_in w x)) y) e)
+          ap (λ (q : Ports). cond (is_reset AsyncResetRegister (parameters_in v x) q) (reset_value AsyncResetRegister (parameters_in v x)) r) same-ports
+          ∙ (ap (λ (p : Parameters). cond (is_reset AsyncResetRegister p (ports_in w x)) (reset_value AsyncResetRegister p) r) same-parameters
+          ∙ ap (λ (y : Row). cond (is_reset AsyncResetRegister (parameters_in w x) (ports_in w x)) (reset_value AsyncResetRegister (parameters_in w x)) y) e)
 
       same-next : (r s : Row) → r ≡ s → next_fn x.kind (parameters_in v x) (ports_in v x) r ≡ next_fn x.kind (parameters_in w x) (ports_in w x) s
       same-next r s e =
@@ -105,7 +105,7 @@ module _ (d : DesignOf) (wired : IsWired d) (i : ℕ) (c : CellOf) (at : IsCell 
       held-by : (r : Role) → kept_row v j x ≡ kept_row w j x → row_of_role r (row_in v (output_of x)) (kept_row v j x) ≡ row_of_role r (row_in w (output_of x)) (kept_row w j x)
       held-by Combinational h = refl
       held-by Register h = same-output
-      held-by ResetRegister h = h
+      held-by AsyncResetRegister h = h
       held-by Constant h = same-output
       held-by Initial h = same-output
       held-by Source h = refl
@@ -122,7 +122,7 @@ module _ (d : DesignOf) (wired : IsWired d) (i : ℕ) (c : CellOf) (at : IsCell 
     pub lowered-held : held_row v i c ≡ held_row w i (register (length d.wires) c)
     lowered-held = kept-held ∙ (seen.row ∙ sym (held-register (length d.wires) c fits w i))
 
-    no-role : (r : Role) (x : CellOf) → x ≡ c → role_of x.kind ≡ r → (ResetRegister ≡ r → ⊥) → ⊥
+    no-role : (r : Role) (x : CellOf) → x ≡ c → role_of x.kind ≡ r → (AsyncResetRegister ≡ r → ⊥) → ⊥
     no-role r x e h n = n (sym fits.role ∙ (ap (λ (y : CellOf). role_of y.kind) (sym e) ∙ h))
 
     pub shown-seen : row_in v (output_of c) ≡ shown_row v i c ↔ (row_in w (output_of c) ≡ cond (reset_in w c) (row_in w (reset_signal c)) (row_in w (kept_signal (length d.wires) c)))
@@ -163,10 +163,10 @@ module _ (d : DesignOf) (wired : IsWired d) (i : ℕ) (c : CellOf) (at : IsCell 
         ]
       ];
       resets = λ j x there role. elim (lowered-cases d i c at wire j x there) as (λ _. row_in w (output_of x) ≡ shown_row w j x) [
-        | inl e ↦ let r : ResetRegister ≡ Register = sym role ∙ (ap (λ (y : CellOf). role_of y.kind) e.1 ∙ no-register) in absurd cc
+        | inl e ↦ let r : AsyncResetRegister ≡ Register = sym role ∙ (ap (λ (y : CellOf). role_of y.kind) e.1 ∙ no-register) in absurd cc
         | inr rest ↦ elim rest as (λ _. row_in w (output_of x) ≡ shown_row w j x) [
           | inl o ↦ sym (same-output j x o.1) ∙ (f.resets j x o.1 role ∙ same-shown j x o.1 (kept_row v j x) (kept_row w j x) (seen.others j x o.1 o.0))
-          | inr e ↦ let r : ResetRegister ≡ Combinational = sym role ∙ ap (λ (y : CellOf). role_of y.kind) e in absurd cc
+          | inr e ↦ let r : AsyncResetRegister ≡ Combinational = sym role ∙ ap (λ (y : CellOf). role_of y.kind) e in absurd cc
         ]
       ];
       connects = λ k j there.

@@ -7,7 +7,7 @@ use Rattle.design_core.specs.Asked.{number_at}
 use Rattle.design_core.specs.Shape.{WireOf, CellOf, DesignOf, IsWire}
 use Rattle.design_core.specs.Table.{role_of}
 use Rattle.design_core.specs.declared.names.ParameterName.TheVariants.{Width}
-use Rattle.design_core.specs.declared.table.Role.TheVariants.{Combinational, Register, ResetRegister}
+use Rattle.design_core.specs.declared.table.Role.TheVariants.{Combinational, Register, AsyncResetRegister}
 use Rattle.design_core.proofs.Designs.{slice_get-append}
 use Rattle.design_meaning.specs.Meaning.{IsCell, IsStart}
 use Rattle.digraph.proofs.Lists.{get-at, get-below}
@@ -178,14 +178,14 @@ module _ (d : DesignOf) (i : ℕ) (ws : List WireOf) (cs ch : List CellOf) (numb
           | inl old ↦ mid.low k x (slice_get-append cs ch k x old) f
           | inr new ↦
               let same : x ≡ register (length ws) c = only new.0 x (register (length ws) c) new.2 in
-              let role : ResetRegister ≡ Register = sym f.role ∙ (ap (λ (y : CellOf). role_of y.kind) same ∙ no-register (midway d i ws cs ch) m-wired i c here fits wire) in
+              let role : AsyncResetRegister ≡ Register = sym f.role ∙ (ap (λ (y : CellOf). role_of y.kind) same ∙ no-register (midway d i ws cs ch) m-wired i c here fits wire) in
               absurd cc
         ]
         | inr rest ↦ elim (get-either ch (shown (length ws) c ∷ []) rest.0 x rest.2) as (λ _. ⊥) [
           | inl old ↦ mid.low (length cs + rest.0) x (get-behind cs ch rest.0 ∙ old) f
           | inr new ↦
               let same : x ≡ shown (length ws) c = only new.0 x (shown (length ws) c) new.2 in
-              let role : ResetRegister ≡ Combinational = sym f.role ∙ ap (λ (y : CellOf). role_of y.kind) same in
+              let role : AsyncResetRegister ≡ Combinational = sym f.role ∙ ap (λ (y : CellOf). role_of y.kind) same in
               absurd cc
         ]
       ]

@@ -8,7 +8,7 @@ use Rattle.std.proofs.lemmas.List.Sums.{sum_by-append, sum_by-cons}
 use Rattle.design_core.specs.Asked.{number_at}
 use Rattle.design_core.specs.Shape.{WireOf, CellOf, DesignOf, IsDesign, IsFileOrder, IsWire, wire_bits}
 use Rattle.design_core.specs.declared.names.ParameterName.TheVariants.{Width}
-use Rattle.design_core.specs.declared.table.Role.TheVariants.{Combinational, Register, ResetRegister}
+use Rattle.design_core.specs.declared.table.Role.TheVariants.{Combinational, Register, AsyncResetRegister}
 use Rattle.design_core.proofs.Designs.{order-cell}
 use Rattle.design_meaning.specs.Meaning.{IsCell}
 use Rattle.design_lower.specs.Lowering.{FitsReset, IsLow, LowersOne, LowersSome, register, shown, with_lowered}
@@ -116,10 +116,10 @@ registers-have (x ∷ cells) registers (suc i) c at fits h = elim h as (λ _. (w
 
 module _ (d : DesignOf) (wired : IsWired d) (i : ℕ) (c : CellOf) (at : IsCell d i c) (fits : FitsReset c) (wire : WireOf) (width : wire.width ≡ number_at c.parameters Width) where
   unfit-register : FitsReset (register (length d.wires) c) → ⊥
-  unfit-register f = let clash : ResetRegister ≡ Register = sym f.role ∙ no-register d wired i c at fits wire in absurd cc
+  unfit-register f = let clash : AsyncResetRegister ≡ Register = sym f.role ∙ no-register d wired i c at fits wire in absurd cc
 
   unfit-shown : FitsReset (shown (length d.wires) c) → ⊥
-  unfit-shown f = let clash : ResetRegister ≡ Combinational = sym f.role in absurd cc
+  unfit-shown f = let clash : AsyncResetRegister ≡ Combinational = sym f.role in absurd cc
 
   more-bits : wire_bits (with_lowered d i c wire) ≡ wire_bits d + wide c
   more-bits =

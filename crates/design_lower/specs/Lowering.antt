@@ -17,13 +17,13 @@ use Rattle.design_core.specs.declared.names.ParameterName.{ParameterName}
 use Rattle.design_core.specs.declared.names.ParameterName.TheVariants.{Width, ClkPolarity, EnPolarity, SrstPolarity, SrstValue, ArstPolarity, ArstValue}
 use Rattle.design_core.specs.declared.parts.Port.{Port}
 use Rattle.design_core.specs.declared.parts.Parameter.{Parameter}
-use Rattle.design_core.specs.declared.table.Role.TheVariants.{ResetRegister}
+use Rattle.design_core.specs.declared.table.Role.TheVariants.{AsyncResetRegister}
 use Rattle.design_meaning.specs.Meaning.{IsCell, IsStart}
 use Rattle.design_check.specs.Faults.{flag}
 
 -- the cell is a register with an asynchronous reset, and fits its line of the table
 pub record FitsReset (c : CellOf) : Type 0 where
-  pub role : role_of c.kind ≡ ResetRegister
+  pub role : role_of c.kind ≡ AsyncResetRegister
   pub parameters : has_parameters c.kind c.parameters ≡ true
   pub ports : HasPorts c
 
@@ -44,7 +44,7 @@ digits_of_cell c name = digits_or_none (digits_at c.parameters name)
 abbrev pub reset_signal : CellOf → List SigBit
 reset_signal c = map digit_bit (digits_of_cell c ArstValue)
 
--- the bits of the new wire, which are the kept row
+-- the bits of the new wire, which are the stored row
 abbrev pub kept_signal : ℕ → CellOf → List SigBit
 kept_signal w c = bits_from (Wire w 0) 0 (number_at c.parameters Width)
 
@@ -58,7 +58,7 @@ parameter name digits = record { name = name; digits = digits }
 abbrev pub port : PortName → List SigBit → Port
 port name signal = record { name = name; signal = signal }
 
--- what the cell shows: ARST_VALUE while it is reset, else the kept row; ARST_VALUE stands at B where ARST is active at 1, at A where at 0
+-- what the cell shows: ARST_VALUE while it is reset, else the stored row; ARST_VALUE stands at B where ARST is active at 1, at A where at 0
 abbrev pub shown : ℕ → CellOf → CellOf
 shown w c = record {
   kind = Mux;

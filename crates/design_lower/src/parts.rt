@@ -106,7 +106,7 @@ fn ordered(turned: bool, first: Signal, second: Signal) -> (Signal, Signal)
     }
 }
 
-/// What the cell shows: a `$mux` that gives ARST_VALUE while the cell is reset, else the kept row.
+/// What the cell shows: a `$mux` that gives ARST_VALUE while the cell is reset, else the stored row.
 pub(crate) fn shown(alloc: Global, cell: &Cell, kept: KeptWire) -> Result<Cell, AllocError>
     requires some { 0 < kept.width }
     requires polarity { has_number cell.now.parameters ParameterName.ArstPolarity ≡ true }

@@ -5,57 +5,17 @@ ghost use Rattle.design_signals.specs.declared.sig_bit.SigBit.{SigBit};
 ghost use Rattle.digraph.specs.Graph.{Extends};
 ghost use Rattle.design_core.specs.Asked.{output_of};
 ghost use Rattle.design_core.specs.Places.{offset, places};
-ghost use Rattle.design_core.specs.Shape.{IsCellOf, IsDeclared, IsDesign};
-ghost use Rattle.design_signals.specs.Chunks.{IsChunk, bits_of};
-ghost use Rattle.design_graph.specs.Edges.{IsDown, IsPair};
+ghost use Rattle.design_core.specs.Shape.{IsCellOf, IsDesign};
 ghost use Rattle.design_meaning.specs.Meaning.{IsInit};
 ghost use Rattle.design_lower.specs.Progress.{IsDigitEnd, IsDigitsOf, IsEndGraph, IsEnds, IsLedWith};
 
 use design_core::cell::Cell;
 use design_core::design::Design;
 use design_core::wire::StartDigits;
+use design_graph::edges::add_down;
 use design_signals::bits::Bits;
-use design_signals::chunk::Chunk;
 use digraph::{add_edge, sort, without_edges};
 use std::alloc::{AllocError, Global};
-
-// Adds an edge from each bit of a signal to the bit beside it in another.
-fn add_pairs(
-    design: &Design,
-    from: &[Chunk],
-    to: &[Chunk],
-    graph: &mut [Vec<usize>],
-) -> Result<(), AllocError>
-    requires from { All (IsDeclared design.now.wires design.now.free) (bits_of from.now) }
-    requires from_chunks { All IsChunk from.now }
-    requires to { All (IsDeclared design.now.wires design.now.free) (bits_of to.now) }
-    requires to_chunks { All IsChunk to.now }
-    requires nodes { places design.now ≤ length graph.old }
-    ensures { OnOk result (Extends graph.old (IsPair design.now (bits_of from.now) (bits_of to.now)) graph.new) }
-{
-    let mut starts = Bits::new(from);
-    let mut ends = Bits::new(to);
-    'bits: while let Some(start) = starts.next() {
-        let Some(end) = ends.next() else {
-            return Ok(());
-        };
-        add_edge(graph, design.place(start), design.place(end))?;
-    }
-    Ok(())
-}
-
-// Adds an edge from what each connect drives to what it drives it from.
-fn add_down(design: &Design, graph: &mut [Vec<usize>]) -> Result<(), AllocError>
-    requires nodes { places design.now ≤ length graph.old }
-    ensures { OnOk result (Extends graph.old (IsDown design.now design.now.connects) graph.new) }
-{
-    let connects = design.connects();
-    for place in 0..connects.len() {
-        let connect = &connects[place];
-        add_pairs(design, connect.left(), connect.right(), graph)?;
-    }
-    Ok(())
-}
 
 // Whether the start digit is this one.
 fn is_digit(start: Option<bool>, digit: bool) -> bool

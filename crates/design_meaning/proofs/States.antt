@@ -1,7 +1,7 @@
 -- State bits and what they have.
 use Rattle.std.proofs.Common.{◌≡◌, ℕ, List, [], ◌∷◌, map, Bool, refl, ap}
 use Rattle.design_core.specs.declared.table.Role.{Role}
-use Rattle.design_core.specs.declared.table.Role.TheVariants.{Combinational, Register, ResetRegister, Constant, Initial, Source, Statement, Unsupported}
+use Rattle.design_core.specs.declared.table.Role.TheVariants.{Combinational, Register, AsyncResetRegister, Constant, Initial, Source, Statement, Unsupported}
 use Rattle.design_meaning.specs.Meaning.{Valuation, bit_in, row_of_role}
 use Rattle.design_meaning.specs.States.{Signal, Kept, state_in, state_of_role}
 use Rattle.design_signals.specs.declared.sig_bit.SigBit.{SigBit}
@@ -18,7 +18,7 @@ pub by_role : (v : Valuation) (i : ℕ) (r : Role) (xs : List SigBit) (ks : List
     → map (state_in v) (state_of_role r (map (λ b. Signal b) xs) (map (λ k. Kept i k) ks)) ≡ row_of_role r (map (bit_in v) xs) (map (v.kept i) ks)
 by_role v i Combinational xs ks = refl
 by_role v i Register xs ks = signals v xs
-by_role v i ResetRegister xs ks = kept v i ks
+by_role v i AsyncResetRegister xs ks = kept v i ks
 by_role v i Constant xs ks = signals v xs
 by_role v i Initial xs ks = signals v xs
 by_role v i Source xs ks = refl

@@ -16,9 +16,9 @@ use Rattle.design_core.specs.declared.digit.Digit.{Digit}
 use Rattle.design_core.specs.declared.digit.Digit.TheVariants.{Const as ConstDigit, Free as FreeDigit, Marker}
 use Rattle.design_core.specs.declared.names.PortName.TheVariants.{A, En}
 use Rattle.design_core.specs.declared.table.Role.{Role}
-use Rattle.design_core.specs.declared.table.Role.TheVariants.{Combinational, Register, ResetRegister, Constant, Initial, Source, Statement, Unsupported}
+use Rattle.design_core.specs.declared.table.Role.TheVariants.{Combinational, Register, AsyncResetRegister, Constant, Initial, Source, Statement, Unsupported}
 
--- What the wires, the free bits and the kept rows have in one cycle: a bit for each bit of each wire, for each free number, and for
+-- What the wires, the free bits and the stored rows have in one cycle: a bit for each bit of each wire, for each free number, and for
 -- each bit that the register with an asynchronous reset at a place of the file's cells keeps.
 pub record Valuation : Type 0 where
   pub wire : ℕ → ℕ → Bool
@@ -60,13 +60,13 @@ kept_row v i c = map (v.kept i) (range_with_len 0 (length (output_of c)))
 
 -- a register with an asynchronous reset shows its reset value while it is reset, else the row that it keeps
 abbrev pub shown_row : Valuation → ℕ → CellOf → Row
-shown_row v i c = cond (is_reset ResetRegister (parameters_in v c) (ports_in v c)) (reset_value ResetRegister (parameters_in v c)) (kept_row v i c)
+shown_row v i c = cond (is_reset AsyncResetRegister (parameters_in v c) (ports_in v c)) (reset_value AsyncResetRegister (parameters_in v c)) (kept_row v i c)
 
 -- v is a cycle of the design: each combinational cell gives what its kind gives of its inputs, each register with an asynchronous
 -- reset shows its row, and the sides of each connect are equal. Nothing else is asked: a bit that nothing drives is free.
 pub record Frame (d : DesignOf) (v : Valuation) : Type 0 where
   pub cells : (i : ℕ) (c : CellOf) → IsCell d i c → role_of c.kind ≡ Combinational → row_in v (output_of c) ≡ cell_fn c.kind (parameters_in v c) (ports_in v c)
-  pub resets : (i : ℕ) (c : CellOf) → IsCell d i c → role_of c.kind ≡ ResetRegister → row_in v (output_of c) ≡ shown_row v i c
+  pub resets : (i : ℕ) (c : CellOf) → IsCell d i c → role_of c.kind ≡ AsyncResetRegister → row_in v (output_of c) ≡ shown_row v i c
   pub connects : (i : ℕ) (j : ConnectOf) → slice_get d.connects i ≡ Some j → row_in v j.left ≡ row_in v j.right
 
 -- a connect drives bit b from bit a
@@ -83,7 +83,7 @@ Chain d (suc n) b a = (m : SigBit) × IsConnected d b m × Chain d n m a
 abbrev pub is_register : Role → Bool
 is_register Combinational = false
 is_register Register = true
-is_register ResetRegister = true
+is_register AsyncResetRegister = true
 is_register Constant = false
 is_register Initial = false
 is_register Source = false
@@ -107,7 +107,7 @@ IsStart d i k x = (a : SigBit) × (w : ℕ) × (b : ℕ) × (n : ℕ) × IsRegis
 abbrev pub row_of_role : Role → Row → Row → Row
 row_of_role Combinational output kept = []
 row_of_role Register output kept = output
-row_of_role ResetRegister output kept = kept
+row_of_role AsyncResetRegister output kept = kept
 row_of_role Constant output kept = output
 row_of_role Initial output kept = output
 row_of_role Source output kept = []

@@ -8,7 +8,7 @@ use Rattle.design_core.specs.declared.digit.Digit.{Digit}
 use Rattle.design_core.specs.declared.digit.Digit.TheVariants.{Free as FreeDigit}
 use Rattle.design_core.specs.declared.names.PortName.{PortName}
 use Rattle.design_core.specs.declared.names.ParameterName.TheVariants.{ArstValue}
-use Rattle.design_core.specs.declared.table.Role.TheVariants.{ResetRegister}
+use Rattle.design_core.specs.declared.table.Role.TheVariants.{AsyncResetRegister}
 use Rattle.design_signals.specs.declared.sig_bit.SigBit.{SigBit}
 use Rattle.design_signals.specs.declared.sig_bit.SigBit.TheVariants.{Free}
 use Rattle.design_meaning.specs.Meaning.{IsCell}
@@ -24,7 +24,7 @@ IsPortBit c a = (p : PortName) × Contains (ports_read c.kind) p × Contains (si
 
 -- a free bit of the value to which an asynchronous reset sets the output
 abbrev pub IsResetBit : CellOf → SigBit → Type 0
-IsResetBit c a = (role_of c.kind ≡ ResetRegister) × ((n : ℕ) × (a ≡ Free n) × IsDigit (digits_at c.parameters ArstValue) (FreeDigit n))
+IsResetBit c a = (role_of c.kind ≡ AsyncResetRegister) × ((n : ℕ) × (a ≡ Free n) × IsDigit (digits_at c.parameters ArstValue) (FreeDigit n))
 
 -- a cell drives a bit from another within the cycle
 abbrev pub CellDrives : DesignOf → SigBit → SigBit → Type 0

@@ -7,7 +7,7 @@ use Rattle.design_core.specs.Places.{offset}
 use Rattle.design_core.specs.Shape.{CellOf, DesignOf, wire_bits}
 use Rattle.design_core.specs.Table.{role_of}
 use Rattle.design_core.specs.declared.table.Role.{Role}
-use Rattle.design_core.specs.declared.table.Role.TheVariants.{Combinational, Register, ResetRegister, Constant, Initial, Source, Statement, Unsupported}
+use Rattle.design_core.specs.declared.table.Role.TheVariants.{Combinational, Register, AsyncResetRegister, Constant, Initial, Source, Statement, Unsupported}
 use Rattle.design_meaning.specs.Meaning.{Valuation}
 
 -- What all wires' bits have in one cycle, in file order, lowest first; what the free bits have, by their numbers; and what the
@@ -24,7 +24,7 @@ no_cycle = record { wires = []; free = []; kept = [] }
 abbrev pub kept_by_role : Role → ℕ → ℕ
 kept_by_role Combinational width = 0
 kept_by_role Register width = 0
-kept_by_role ResetRegister width = width
+kept_by_role AsyncResetRegister width = width
 kept_by_role Constant width = 0
 kept_by_role Initial width = 0
 kept_by_role Source width = 0
@@ -41,7 +41,7 @@ kept_bits d = sum_by kept_width d.cells
 abbrev pub kept_offset : DesignOf → ℕ → ℕ
 kept_offset d i = sum_by kept_width (take i d.cells)
 
--- bit b of wire w stands b places after the wire's lowest, bit k of a kept row k places after the row's lowest
+-- bit b of wire w stands b places after the wire's lowest, bit k of a stored row k places after the row's lowest
 abbrev pub valuation_of : DesignOf → CycleOf → Valuation
 valuation_of d c = record {
   wire = λ w b. slice_index_or c.wires (offset d w + b) false;

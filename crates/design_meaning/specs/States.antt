@@ -5,7 +5,7 @@ use Rattle.design_core.specs.Asked.{output_of}
 use Rattle.design_core.specs.Shape.{WireOf, CellOf, DesignOf}
 use Rattle.design_core.specs.Table.{role_of}
 use Rattle.design_core.specs.declared.table.Role.{Role}
-use Rattle.design_core.specs.declared.table.Role.TheVariants.{Combinational, Register, ResetRegister, Constant, Initial, Source, Statement, Unsupported}
+use Rattle.design_core.specs.declared.table.Role.TheVariants.{Combinational, Register, AsyncResetRegister, Constant, Initial, Source, Statement, Unsupported}
 use Rattle.design_signals.specs.declared.sig_bit.SigBit.{SigBit}
 use Rattle.design_signals.specs.declared.sig_bit.SigBit.TheVariants.{Wire, Const, Free}
 use Rattle.design_meaning.specs.Meaning.{Valuation, bit_in}
@@ -23,7 +23,7 @@ state_in v (Kept i k) = v.kept i k
 abbrev pub state_of_role : Role → List StateBit → List StateBit → List StateBit
 state_of_role Combinational output kept = []
 state_of_role Register output kept = output
-state_of_role ResetRegister output kept = kept
+state_of_role AsyncResetRegister output kept = kept
 state_of_role Constant output kept = output
 state_of_role Initial output kept = output
 state_of_role Source output kept = []
@@ -33,7 +33,7 @@ state_of_role Unsupported output kept = []
 abbrev pub state_of : ℕ × CellOf → List StateBit
 state_of (i, c) = state_of_role (role_of c.kind) (map (λ b. Signal b) (output_of c)) (map (λ k. Kept i k) (range_with_len 0 (length (output_of c))))
 
--- all state bits: of registers, of kept rows, of `$anyconst` and of `$initstate`, cell by cell
+-- all state bits: of registers, of stored rows, of `$anyconst` and of `$initstate`, cell by cell
 abbrev pub state_bits : DesignOf → List StateBit
 state_bits d = flat_map state_of (enumerate_from 0 d.cells)
 
@@ -41,7 +41,7 @@ state_bits d = flat_map state_of (enumerate_from 0 d.cells)
 abbrev pub given_of_role : Role → List SigBit → List SigBit
 given_of_role Combinational output = output
 given_of_role Register output = output
-given_of_role ResetRegister output = output
+given_of_role AsyncResetRegister output = output
 given_of_role Constant output = output
 given_of_role Initial output = output
 given_of_role Source output = []

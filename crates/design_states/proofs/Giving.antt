@@ -10,7 +10,7 @@ use Rattle.design_core.specs.Places.{place_of, places}
 use Rattle.design_core.specs.Shape.{CellOf, ConnectOf, DesignOf, IsDeclared, IsDesign}
 use Rattle.design_core.specs.Table.{role_of}
 use Rattle.design_core.specs.declared.table.Role.{Role}
-use Rattle.design_core.specs.declared.table.Role.TheVariants.{Combinational, Register, ResetRegister, Constant, Initial, Source, Statement, Unsupported}
+use Rattle.design_core.specs.declared.table.Role.TheVariants.{Combinational, Register, AsyncResetRegister, Constant, Initial, Source, Statement, Unsupported}
 use Rattle.design_core.proofs.Lists.{Contains-from_place, place-from_Contains}
 use Rattle.design_core.proofs.Places.{place_of-same}
 use Rattle.design_graph.proofs.Declared.{left-declared, output-declared}
@@ -41,7 +41,7 @@ module _ {X Y : Type 0} (f : X → List Y) where
 given-role : (r : Role) (out : List SigBit) (a : SigBit) → is_given r ≡ true → Contains out a → Contains (given_of_role r out) a
 given-role Combinational out a e h = h
 given-role Register out a e h = h
-given-role ResetRegister out a e h = h
+given-role AsyncResetRegister out a e h = h
 given-role Constant out a e h = h
 given-role Initial out a e h = h
 given-role Source out a e h = absurd (false≢true e)
@@ -51,7 +51,7 @@ given-role Unsupported out a e h = absurd (false≢true e)
 role-given : (r : Role) (out : List SigBit) (a : SigBit) → Contains (given_of_role r out) a → (is_given r ≡ true) × Contains out a
 role-given Combinational out a h = (refl, h)
 role-given Register out a h = (refl, h)
-role-given ResetRegister out a h = (refl, h)
+role-given AsyncResetRegister out a h = (refl, h)
 role-given Constant out a h = (refl, h)
 role-given Initial out a h = (refl, h)
 role-given Source out a h = absurd (nothing a h)

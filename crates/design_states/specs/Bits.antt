@@ -5,7 +5,7 @@ use Rattle.design_core.specs.Asked.{output_of}
 use Rattle.design_core.specs.Shape.{CellOf, ConnectOf, DesignOf, IsDeclared}
 use Rattle.design_core.specs.Table.{role_of}
 use Rattle.design_core.specs.declared.table.Role.{Role}
-use Rattle.design_core.specs.declared.table.Role.TheVariants.{Combinational, Register, ResetRegister, Constant, Initial, Source, Statement, Unsupported}
+use Rattle.design_core.specs.declared.table.Role.TheVariants.{Combinational, Register, AsyncResetRegister, Constant, Initial, Source, Statement, Unsupported}
 use Rattle.design_graph.specs.Edges.{IsPlaceIn}
 use Rattle.design_meaning.specs.States.{StateBit as StateBitOf, Signal as SignalOf, Kept as KeptOf, given}
 use Rattle.design_signals.specs.declared.sig_bit.SigBit.{SigBit}
@@ -21,7 +21,7 @@ state_bit (Kept i k) = KeptOf i k
 abbrev pub is_given : Role → Bool
 is_given Combinational = true
 is_given Register = true
-is_given ResetRegister = true
+is_given AsyncResetRegister = true
 is_given Constant = true
 is_given Initial = true
 is_given Source = false

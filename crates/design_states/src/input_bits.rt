@@ -27,7 +27,7 @@ fn is_given(kind: Kind) -> bool
     match role_of(kind) {
         Role::Combinational
         | Role::Register
-        | Role::ResetRegister
+        | Role::AsyncResetRegister
         | Role::Constant
         | Role::Initial => true,
         Role::Source | Role::Statement | Role::Unsupported => false,

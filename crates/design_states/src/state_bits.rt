@@ -62,12 +62,12 @@ fn push_cell(
 {
     match role_of(cell.kind()) {
         Role::Register | Role::Constant | Role::Initial => push_signal(bits, cell.output()),
-        Role::ResetRegister => push_kept(alloc, bits, place, cell),
+        Role::AsyncResetRegister => push_kept(alloc, bits, place, cell),
         Role::Combinational | Role::Source | Role::Statement | Role::Unsupported => Ok(()),
     }
 }
 
-/// All state bits, in file order: of registers, of kept rows, of `$anyconst` and of `$initstate`.
+/// All state bits, in file order: of registers, of stored rows, of `$anyconst` and of `$initstate`.
 pub fn state_bits(alloc: Global, design: &Design) -> Result<Vec<StateBit>, AllocError>
     ensures { IfOk result (λ bits. map state_bit bits.items ≡ state_bits design.now) }
 {

@@ -4,7 +4,7 @@ use Rattle.std.specs.Prelude.{slice_get, All}
 use Rattle.cnf_form.specs.Cnf.{LitOf}
 use Rattle.model_core.specs.Shape.{IsStatement}
 use Rattle.model_core.specs.declared.model.Statement.{Statement}
-use Rattle.frame_gates.proofs.Lists.{all_at}
+use Rattle.model_core.proofs.Lists.{all_at}
 
 pub places_below : (size : ℕ) (table : List LitOf) (places ps : List ℕ) → places ≡ ps → All (λ p. p < size) ps → length table ≡ size → All (λ p. p < length table) places
 places_below size table places ps e a n k d l =

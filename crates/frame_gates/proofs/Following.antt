@@ -12,7 +12,7 @@ use Rattle.sby_bits.specs.Rows.{Row}
 use Rattle.model_core.specs.Shape.{RegisterOf, ModelOf}
 use Rattle.model_core.specs.Meaning.{next_row}
 use Rattle.frame_gates.specs.Frames.{cycle_of}
-use Rattle.frame_gates.proofs.Lists.{flat_more}
+use Rattle.model_core.proofs.Lists.{flat_more}
 use Rattle.frame_gates.proofs.Reading.{all_more}
 
 -- one register more

@@ -11,8 +11,9 @@ use Rattle.model_core.specs.Meaning.{Cycle, node_fn, row_at, row_of_node}
 use Rattle.model_core.specs.Served.{IsModel}
 use Rattle.frame_gates.specs.Frames.{IsTable, cycle_of, lit_at, lits_at}
 use Rattle.frame_gates.specs.Rows.{AreGiven, IsGiven, IsWritten}
-use Rattle.frame_gates.proofs.Lists.{below_or_last, contained_left, contained_right, flat_front, map_same, one_at}
-use Rattle.frame_gates.proofs.Lists.{flat_more}
+use Rattle.std.proofs.lemmas.List.Elements.{Contains-append_left, Contains-append_right}
+use Rattle.model_core.proofs.Lists.{below_or_last, flat_more}
+use Rattle.frame_gates.proofs.Lists.{flat_front, map_same, one_at}
 use Rattle.frame_gates.proofs.Places.{before_apart, earlier_apart, read_apart, source_apart}
 use Rattle.frame_gates.proofs.Reading.{all_more, read_row, written_lits, written_others}
 
@@ -22,9 +23,9 @@ row_agrees c e places h = map_same c e places h
 
 pub node_agrees : (c e : Cycle) (n : NodeOf) → ((p : ℕ) → Contains (reads n) p → c p ≡ e p) → row_of_node c n ≡ row_of_node e n
 node_agrees c e n h =
-    let a = row_agrees c e n.a (λ p k. h p (contained_left n.a (n.b ++ n.s) p k)) in
-    let b = row_agrees c e n.b (λ p k. h p (contained_right n.a (n.b ++ n.s) p (contained_left n.b n.s p k))) in
-    let s = row_agrees c e n.s (λ p k. h p (contained_right n.a (n.b ++ n.s) p (contained_right n.b n.s p k))) in
+    let a = row_agrees c e n.a (λ p k. h p (Contains-append_left n.a (n.b ++ n.s) p k)) in
+    let b = row_agrees c e n.b (λ p k. h p (Contains-append_right n.a (n.b ++ n.s) p (Contains-append_left n.b n.s p k))) in
+    let s = row_agrees c e n.s (λ p k. h p (Contains-append_right n.a (n.b ++ n.s) p (Contains-append_right n.b n.s p k))) in
     ap (λ (r : Row). node_fn n.op (length n.y) r (row_at c n.b) (row_at c n.s)) a
     ∙ ap (λ (r : Row). node_fn n.op (length n.y) (row_at e n.a) r (row_at c n.s)) b
     ∙ ap (node_fn n.op (length n.y) (row_at e n.a) (row_at e n.b)) s
@@ -55,7 +56,7 @@ Given-more m is g h i n old mid new at k p q = record {
     | inl a ↦
         let outs : (r : ℕ) → Contains node.y r → Contains (given (take i m.nodes)) r = λ r c.
         flat_front (λ (z : NodeOf). z.y) m.nodes (suc j) i r (omega arith)
-        (subst (λ (rs : List ℕ). Contains rs r) (sym (flat_more (λ (z : NodeOf). z.y) m.nodes j node e)) (contained_right (given (take j m.nodes)) node.y r c)) in
+        (subst (λ (rs : List ℕ). Contains rs r) (sym (flat_more (λ (z : NodeOf). z.y) m.nodes j node e)) (Contains-append_right (given (take j m.nodes)) node.y r c)) in
         row_agrees (cycle_of new x) (cycle_of mid x) node.y (λ r c. ap (lit_in x) (q.others r (λ y. earlier_apart m is i n at r (outs r c) y)))
         ∙ p.nodes j node a e x (keeps g h k x s)
         ∙ node_agrees (cycle_of mid x) (cycle_of new x) node

@@ -1,69 +1,11 @@
 -- Lists by places.
-use Rattle.std.proofs.Common.{◌≡◌, ◌⊎◌, ℕ, zero, suc, ◌+◌, ◌<◌, ◌≤◌, List, [], ◌∷◌, ◌++◌, map, Some, None, refl, sym, ap, ◌∙◌, subst, inl, inr, arith, length, take, append_assoc, get_or}
+use Rattle.std.proofs.Common.{◌≡◌, ℕ, zero, suc, ◌+◌, ◌≤◌, List, [], ◌∷◌, ◌++◌, map, Some, None, refl, sym, ap, ◌∙◌, subst, inl, inr, arith, length, take, append_assoc, get_or}
 use Rattle.std.specs.Prelude.{slice_get, Contains, All}
 use Rattle.std.specs.List.{flat_map}
-use Rattle.std.proofs.lemmas.Bool.{cases_lt}
-use Rattle.std.proofs.lemmas.Option.{slice_get_within, slice_get-get_or, get_or_from_slice_get}
-use Rattle.std.proofs.lemmas.List.{append-nil}
-use Rattle.std.proofs.lemmas.List.Elements.{Contains-append_left}
+use Rattle.std.proofs.lemmas.Option.{slice_get_within, get_or_from_slice_get}
+use Rattle.std.proofs.lemmas.List.Elements.{Contains-append_left, Contains-append_right, Contains-append_cases}
 use Rattle.model_core.specs.Shape.{IsDistinct}
-
-pub push-either : {A : Type 0} (xs : List A) (x y : A) (k : ℕ) → slice_get (xs ++ x ∷ []) k ≡ Some y → (slice_get xs k ≡ Some y) ⊎ ((k ≡ length xs) × (y ≡ x))
-push-either [] x y zero h = inr (refl, cc)
-push-either [] x y (suc k) h = cc
-push-either (z ∷ xs) x y zero h = inl h
-push-either (z ∷ xs) x y (suc k) h =
-    elim (push-either xs x y k h) as (λ _. (slice_get xs k ≡ Some y) ⊎ ((suc k ≡ suc (length xs)) × (y ≡ x))) [ inl p ↦ inl p | inr p ↦ inr (ap suc p.0, p.1) ]
-
-pub length-push : {A : Type 0} (xs : List A) (x : A) → length (xs ++ x ∷ []) ≡ suc (length xs)
-length-push [] x = refl
-length-push (y ∷ xs) x = ap suc (length-push xs x)
-
-pub app_left : {A : Type 0} (xs ys : List A) (k : ℕ) (y : A) → slice_get xs k ≡ Some y → slice_get (xs ++ ys) k ≡ Some y
-app_left [] ys k y h = absurd (let z : None ≡ Some y = h in cc)
-app_left (x ∷ xs) ys zero y h = h
-app_left (x ∷ xs) ys (suc k) y h = app_left xs ys k y h
-
-pub app_right : {A : Type 0} (xs ys : List A) (k n : ℕ) → n ≡ length xs + k → slice_get (xs ++ ys) n ≡ slice_get ys k
-app_right [] ys k n e = let z : n ≡ k = omega arith in rw z refl
-app_right (x ∷ xs) ys k zero e = absurd (omega arith)
-app_right (x ∷ xs) ys k (suc n) e = app_right xs ys k n (omega arith)
-
-pub app_cases : {A : Type 0} (xs ys : List A) (p : ℕ) (y : A) → slice_get (xs ++ ys) p ≡ Some y →
-    (slice_get xs p ≡ Some y) ⊎ ((k : ℕ) × (p ≡ length xs + k) × (slice_get ys k ≡ Some y))
-app_cases [] ys p y h = inr (p, omega arith, h)
-app_cases (x ∷ xs) ys zero y h = inl h
-app_cases (x ∷ xs) ys (suc p) y h =
-    elim (app_cases xs ys p y h) as (λ _. (slice_get xs p ≡ Some y) ⊎ ((k : ℕ) × (suc p ≡ suc (length xs) + k) × (slice_get ys k ≡ Some y))) [
-      | inl a ↦ inl a
-      | inr a ↦ inr (a.0, (let e : p ≡ length xs + a.0 = a.1 in omega arith), a.2)
-    ]
-
-pub place_of_contained : {A : Type 0} (xs : List A) (x : A) → Contains xs x → (k : ℕ) × (slice_get xs k ≡ Some x)
-place_of_contained xs x c = (c.0, slice_get-get_or xs c.0 x c.1 ∙ ap Some c.2)
-
-pub contained_at : {A : Type 0} (xs : List A) (x : A) (k : ℕ) → slice_get xs k ≡ Some x → Contains xs x
-contained_at xs x k e = (k, slice_get_within xs k x e, get_or_from_slice_get xs k x x e)
-
-pub contained_left : {A : Type 0} (xs ys : List A) (x : A) → Contains xs x → Contains (xs ++ ys) x
-contained_left xs ys x c = Contains-append_left xs ys x c
-
-pub contained_right : {A : Type 0} (xs ys : List A) (x : A) → Contains ys x → Contains (xs ++ ys) x
-contained_right xs ys x c = let at = place_of_contained ys x c in contained_at (xs ++ ys) x (length xs + at.0) (app_right xs ys at.0 (length xs + at.0) refl ∙ at.1)
-
-pub contained_either : {A : Type 0} (xs ys : List A) (x : A) → Contains (xs ++ ys) x → Contains xs x ⊎ Contains ys x
-contained_either xs ys x c =
-    let at = place_of_contained (xs ++ ys) x c in
-    elim (app_cases xs ys at.0 x at.1) as (λ _. Contains xs x ⊎ Contains ys x) [
-      | inl a ↦ inl (contained_at xs x at.0 a)
-      | inr a ↦ inr (contained_at ys x a.0 a.2)
-    ]
-
-pub all_at : {A : Type 0} (P : A → Type 0) (xs : List A) (k : ℕ) (x : A) → All P xs → slice_get xs k ≡ Some x → P x
-all_at P xs k x h e = subst P (get_or_from_slice_get xs k x x e) (h k x (slice_get_within xs k x e))
-
-pub all_from : {A : Type 0} (P : A → Type 0) (xs : List A) → ((k : ℕ) (x : A) → slice_get xs k ≡ Some x → P x) → All P xs
-all_from P xs h k x l = h k (get_or xs k x) (slice_get-get_or xs k x l)
+use Rattle.model_core.proofs.Lists.{all_at, all_from, app_left, app_right, contained_at, place_of_contained}
 
 pub all_of : {A : Type 0} (P : A → Type 0) (xs : List A) → ((x : A) → Contains xs x → P x) → All P xs
 all_of P xs h = all_from P xs (λ k x e. h x (contained_at xs x k e))
@@ -71,27 +13,14 @@ all_of P xs h = all_from P xs (λ k x e. h x (contained_at xs x k e))
 pub all_contained : {A : Type 0} (P : A → Type 0) (xs : List A) (x : A) → All P xs → Contains xs x → P x
 all_contained P xs x h c = let at = place_of_contained xs x c in all_at P xs at.0 x h at.1
 
-pub at_place : {A : Type 0} (xs : List A) (k : ℕ) → k < length xs → (x : A) × (slice_get xs k ≡ Some x)
-at_place [] k h = absurd (omega arith)
-at_place (x ∷ xs) zero h = (x, refl)
-at_place (x ∷ xs) (suc k) h = at_place xs k (omega arith)
-
 pub one_at : {A : Type 0} (xs : List A) (k : ℕ) (x y : A) → slice_get xs k ≡ Some x → slice_get xs k ≡ Some y → x ≡ y
 one_at xs k x y p q = cc
-
-pub below_or_last : (k t : ℕ) → k < t + 1 → (k < t) ⊎ (k ≡ t)
-below_or_last k t h = elim (cases_lt k t) as (λ _. (k < t) ⊎ (k ≡ t)) [ inl p ↦ inl p | inr q ↦ inr (omega arith) ]
 
 -- the first n elements, one more
 pub take_step : {A : Type 0} (xs : List A) (i : ℕ) (x : A) → slice_get xs i ≡ Some x → take (suc i) xs ≡ take i xs ++ x ∷ []
 take_step [] i x h = absurd (let z : None ≡ Some x = h in cc)
 take_step (z ∷ xs) zero x h = let same : z ≡ x = cc in ap (λ (y : _). y ∷ []) same
 take_step (z ∷ xs) (suc i) x h = ap (λ (ys : List _). z ∷ ys) (take_step xs i x h)
-
-pub flat_more : {A B : Type 0} (f : A → List B) (xs : List A) (i : ℕ) (x : A) → slice_get xs i ≡ Some x → flat_map f (take (suc i) xs) ≡ flat_map f (take i xs) ++ f x
-flat_more f [] i x h = absurd (let z : None ≡ Some x = h in cc)
-flat_more f (z ∷ xs) zero x h = let same : z ≡ x = cc in append-nil (f z) ∙ ap f same
-flat_more {A} {B} f (z ∷ xs) (suc i) x h = ap (λ (ys : List B). f z ++ ys) (flat_more f xs i x h) ∙ sym (append_assoc (f z) (flat_map f (take i xs)) (f x))
 
 -- the lists of the elements before place i, of that at i, and of those after it
 pub flat_split : {A B : Type 0} (f : A → List B) (xs : List A) (i : ℕ) (x : A) → slice_get xs i ≡ Some x → (rest : List B) × (flat_map f xs ≡ flat_map f (take i xs) ++ (f x ++ rest))
@@ -104,7 +33,7 @@ flat_split {A} {B} f (z ∷ xs) (suc i) x h =
 pub flat_contained : {A B : Type 0} (f : A → List B) (xs : List A) (i : ℕ) (x : A) (y : B) → slice_get xs i ≡ Some x → Contains (f x) y → Contains (flat_map f xs) y
 flat_contained {A} {B} f xs i x y e c =
     let r = flat_split f xs i x e in
-    subst (λ (ys : List B). Contains ys y) (sym r.1) (contained_right (flat_map f (take i xs)) (f x ++ r.0) y (contained_left (f x) r.0 y c))
+    subst (λ (ys : List B). Contains ys y) (sym r.1) (Contains-append_right (flat_map f (take i xs)) (f x ++ r.0) y (Contains-append_left (f x) r.0 y c))
 
 -- what is among the first is among more of the first
 pub flat_front : {A B : Type 0} (f : A → List B) (xs : List A) (i j : ℕ) (y : B) → i ≤ j → Contains (flat_map f (take i xs)) y → Contains (flat_map f (take j xs)) y
@@ -115,9 +44,9 @@ flat_front f [] (suc i) (suc j) y h c = c
 flat_front f (x ∷ xs) zero j y h c = absurd (let l = c.1 in omega arith)
 flat_front f (x ∷ xs) (suc i) zero y h c = absurd (omega arith)
 flat_front f (x ∷ xs) (suc i) (suc j) y h c =
-    elim (contained_either (f x) (flat_map f (take i xs)) y c) as (λ _. Contains (f x ++ flat_map f (take j xs)) y) [
-      | inl a ↦ contained_left (f x) (flat_map f (take j xs)) y a
-      | inr a ↦ contained_right (f x) (flat_map f (take j xs)) y (flat_front f xs i j y (omega arith) a)
+    elim (Contains-append_cases (f x) (flat_map f (take i xs)) y c) as (λ _. Contains (f x ++ flat_map f (take j xs)) y) [
+      | inl a ↦ Contains-append_left (f x) (flat_map f (take j xs)) y a
+      | inr a ↦ Contains-append_right (f x) (flat_map f (take j xs)) y (flat_front f xs i j y (omega arith) a)
     ]
 
 -- lists in which nothing stands twice
@@ -155,7 +84,7 @@ pub map_same : {A B : Type 0} (f g : A → B) (xs : List A) → ((x : A) → Con
 map_same f g [] h = refl
 map_same {A} {B} f g (x ∷ xs) h =
     let e : f x ≡ g x = h x (0, (omega arith), refl) in
-    let r = map_same f g xs (λ y c. h y (contained_right (x ∷ []) xs y c)) in
+    let r = map_same f g xs (λ y c. h y (Contains-append_right (x ∷ []) xs y c)) in
     ap (λ (y : B). y ∷ map f xs) e ∙ ap (λ (ys : List B). g x ∷ ys) r
 
 -- equal maps are equal at each element

@@ -20,7 +20,8 @@ use Rattle.frame_gates.specs.Frames.{cycle_of, lit_at, lits_at}
 use Rattle.frame_gates.specs.Rows.{IsGiven, IsWritten}
 use Rattle.model_core.proofs.Fitting.{node_rows_fit}
 use Rattle.frame_gates.proofs.Giving.{given_row}
-use Rattle.frame_gates.proofs.Lists.{all_at, all_of, at_place, flat_contained, length_map, one_at}
+use Rattle.model_core.proofs.Lists.{all_at, at_place}
+use Rattle.frame_gates.proofs.Lists.{all_of, flat_contained, length_map, one_at}
 use Rattle.frame_gates.proofs.Places.{a_below, b_below, output_small, s_below, states_below, y_below, y_distinct}
 use Rattle.frame_gates.proofs.Reading.{read_row, within_lits}
 

@@ -3,7 +3,7 @@ use Rattle.std.proofs.Common.{◌≡◌, ℕ, zero, suc, ◌+◌, ◌<◌, Bool,
 use Rattle.cnf_form.specs.Cnf.{LitOf}
 use Rattle.gate_graph.specs.Circuit.{GatesOf, Means}
 use Rattle.frame_gates.specs.Frames.{lit_at}
-use Rattle.frame_gates.proofs.Lists.{below_or_last}
+use Rattle.model_core.proofs.Lists.{below_or_last}
 
 lit_push-old : (lits : List LitOf) (l : LitOf) (k : ℕ) → k < length lits → lit_at (lits ++ l ∷ []) k ≡ lit_at lits k
 lit_push-old [] l k h = absurd (omega arith)

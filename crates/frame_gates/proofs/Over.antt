@@ -10,7 +10,8 @@ use Rattle.model_core.specs.Served.{IsModel}
 use Rattle.frame_gates.specs.Frames.{IsFrameOver, IsTable, lit_at}
 use Rattle.frame_gates.specs.Rows.{AreGiven, IsWritten}
 use Rattle.frame_gates.specs.Steps.{IsFilled, IsFirstTable}
-use Rattle.frame_gates.proofs.Lists.{contained_left, contained_right, map_same}
+use Rattle.std.proofs.lemmas.List.Elements.{Contains-append_left, Contains-append_right}
+use Rattle.frame_gates.proofs.Lists.{map_same}
 use Rattle.frame_gates.proofs.Reading.{written_lits, written_others}
 use Rattle.frame_gates.proofs.Places.{input_source, one_apart, one_source, state_apart, state_source, zero_apart, zero_source}
 
@@ -22,8 +23,8 @@ module _ (m : ModelOf) (is : IsModel m) (g : GatesOf) (bits ins t0 t1 t2 : List 
   module _ (h : GatesOf) (t3 : List LitOf) (given : AreGiven m (length m.nodes) h t2 t3) where
     kept : (p : ℕ) → Contains (sources m) p → (Contains (states m ++ m.inputs) p → ⊥) → lit_at t3 p ≡ lit_at t0 p
     kept p c none =
-        given.sources p c ∙ written_others m.inputs ins t1 t2 p second (λ d. none (contained_right (states m) m.inputs p d))
-        ∙ written_others (states m) bits t0 t1 p first (λ d. none (contained_left (states m) m.inputs p d))
+        given.sources p c ∙ written_others m.inputs ins t1 t2 p second (λ d. none (Contains-append_right (states m) m.inputs p d))
+        ∙ written_others (states m) bits t0 t1 p first (λ d. none (Contains-append_left (states m) m.inputs p d))
 
     pub over_filled : IsFilled m h bits ins t0 t3
     over_filled = record {

@@ -9,7 +9,8 @@ use Rattle.model_core.specs.Shape.{NodeOf, ModelOf, IsDistinct, given, reads, so
 use Rattle.model_core.specs.Served.{HasWidths, IsModel, unary_limit, binary_limit}
 use Rattle.model_core.specs.declared.op.Op.{Op}
 use Rattle.model_core.specs.declared.op.Op.TheVariants as op
-use Rattle.frame_gates.proofs.Lists.{all_contained, all_of, contained_either, contained_left, contained_right, distinct_apart, distinct_left, distinct_right, flat_contained, flat_front, flat_split}
+use Rattle.std.proofs.lemmas.List.Elements.{Contains-append_cases, Contains-append_left, Contains-append_right}
+use Rattle.frame_gates.proofs.Lists.{all_contained, all_of, distinct_apart, distinct_left, distinct_right, flat_contained, flat_front, flat_split}
 
 unary_small : (k : Unary) → unary_limit k ≤ 4096
 unary_small Not = omega arith
@@ -48,16 +49,16 @@ given_front : (nodes : List NodeOf) (i p : ℕ) → Contains (given (take i node
 given_front [] zero p c = c
 given_front [] (suc i) p c = c
 given_front (n ∷ nodes) zero p c = absurd (let l = c.1 in omega arith)
-given_front (n ∷ nodes) (suc i) p c = elim (contained_either n.y (given (take i nodes)) p c) as (λ _. Contains (n.y ++ given nodes) p) [
-  | inl a ↦ contained_left n.y (given nodes) p a
-  | inr a ↦ contained_right n.y (given nodes) p (given_front nodes i p a)
+given_front (n ∷ nodes) (suc i) p c = elim (Contains-append_cases n.y (given (take i nodes)) p c) as (λ _. Contains (n.y ++ given nodes) p) [
+  | inl a ↦ Contains-append_left n.y (given nodes) p a
+  | inr a ↦ Contains-append_right n.y (given nodes) p (given_front nodes i p a)
 ]
 
 pub state_source : (m : ModelOf) (p : ℕ) → Contains (states m) p → Contains (sources m) p
-state_source m p c = contained_right (m.zero ∷ suc m.zero ∷ []) (states m ++ m.inputs) p (contained_left (states m) m.inputs p c)
+state_source m p c = Contains-append_right (m.zero ∷ suc m.zero ∷ []) (states m ++ m.inputs) p (Contains-append_left (states m) m.inputs p c)
 
 pub input_source : (m : ModelOf) (p : ℕ) → Contains m.inputs p → Contains (sources m) p
-input_source m p c = contained_right (m.zero ∷ suc m.zero ∷ []) (states m ++ m.inputs) p (contained_right (states m) m.inputs p c)
+input_source m p c = Contains-append_right (m.zero ∷ suc m.zero ∷ []) (states m ++ m.inputs) p (Contains-append_right (states m) m.inputs p c)
 
 pub zero_source : (m : ModelOf) → Contains (sources m) m.zero
 zero_source m = (0, (omega arith), refl)
@@ -67,7 +68,7 @@ one_source m = (1, (omega arith), refl)
 
 module _ (m : ModelOf) (is : IsModel m) where
   pub source_below : (p : ℕ) → Contains (sources m) p → p < m.size
-  source_below p c = all_contained (λ (q : ℕ). q < m.size) (sources m ++ given m.nodes) p is.below (contained_left (sources m) (given m.nodes) p c)
+  source_below p c = all_contained (λ (q : ℕ). q < m.size) (sources m ++ given m.nodes) p is.below (Contains-append_left (sources m) (given m.nodes) p c)
 
   pub states_below : All (λ p. p < m.size) (states m)
   states_below = all_of (λ (p : ℕ). p < m.size) (states m) (λ p c. source_below p (state_source m p c))
@@ -76,25 +77,25 @@ module _ (m : ModelOf) (is : IsModel m) where
   inputs_below = all_of (λ (p : ℕ). p < m.size) m.inputs (λ p c. source_below p (input_source m p c))
 
   before_below : (i p : ℕ) → Contains (sources m ++ given (take i m.nodes)) p → p < m.size
-  before_below i p c = elim (contained_either (sources m) (given (take i m.nodes)) p c) as (λ _. p < m.size) [
+  before_below i p c = elim (Contains-append_cases (sources m) (given (take i m.nodes)) p c) as (λ _. p < m.size) [
     | inl a ↦ source_below p a
-    | inr a ↦ all_contained (λ (q : ℕ). q < m.size) (sources m ++ given m.nodes) p is.below (contained_right (sources m) (given m.nodes) p (given_front m.nodes i p a))
+    | inr a ↦ all_contained (λ (q : ℕ). q < m.size) (sources m ++ given m.nodes) p is.below (Contains-append_right (sources m) (given m.nodes) p (given_front m.nodes i p a))
   ]
 
   module _ (i : ℕ) (n : NodeOf) (at : slice_get m.nodes i ≡ Some n) where
     pub a_below : All (λ p. p < m.size) n.a
-    a_below = all_of (λ (p : ℕ). p < m.size) n.a (λ p c. before_below i p (is.order i n at p (contained_left n.a (n.b ++ n.s) p c)))
+    a_below = all_of (λ (p : ℕ). p < m.size) n.a (λ p c. before_below i p (is.order i n at p (Contains-append_left n.a (n.b ++ n.s) p c)))
 
     pub b_below : All (λ p. p < m.size) n.b
-    b_below = all_of (λ (p : ℕ). p < m.size) n.b (λ p c. before_below i p (is.order i n at p (contained_right n.a (n.b ++ n.s) p (contained_left n.b n.s p c))))
+    b_below = all_of (λ (p : ℕ). p < m.size) n.b (λ p c. before_below i p (is.order i n at p (Contains-append_right n.a (n.b ++ n.s) p (Contains-append_left n.b n.s p c))))
 
     pub s_below : All (λ p. p < m.size) n.s
-    s_below = all_of (λ (p : ℕ). p < m.size) n.s (λ p c. before_below i p (is.order i n at p (contained_right n.a (n.b ++ n.s) p (contained_right n.b n.s p c))))
+    s_below = all_of (λ (p : ℕ). p < m.size) n.s (λ p c. before_below i p (is.order i n at p (Contains-append_right n.a (n.b ++ n.s) p (Contains-append_right n.b n.s p c))))
 
     pub y_below : All (λ p. p < m.size) n.y
     y_below = all_of (λ (p : ℕ). p < m.size) n.y (λ p c.
         all_contained (λ (q : ℕ). q < m.size) (sources m ++ given m.nodes) p is.below
-        (contained_right (sources m) (given m.nodes) p (flat_contained (λ (k : NodeOf). k.y) m.nodes i n p at c)))
+        (Contains-append_right (sources m) (given m.nodes) p (flat_contained (λ (k : NodeOf). k.y) m.nodes i n p at c)))
 
     split : (rest : List ℕ) × (given m.nodes ≡ given (take i m.nodes) ++ (n.y ++ rest))
     split = flat_split (λ (k : NodeOf). k.y) m.nodes i n at
@@ -110,10 +111,10 @@ module _ (m : ModelOf) (is : IsModel m) where
     source_apart p c y = distinct_apart (sources m) (given m.nodes) p is.once c (flat_contained (λ (k : NodeOf). k.y) m.nodes i n p at y)
 
     pub earlier_apart : (p : ℕ) → Contains (given (take i m.nodes)) p → Contains n.y p → ⊥
-    earlier_apart p c y = distinct_apart (given (take i m.nodes)) (n.y ++ split.0) p tail_distinct c (contained_left n.y split.0 p y)
+    earlier_apart p c y = distinct_apart (given (take i m.nodes)) (n.y ++ split.0) p tail_distinct c (Contains-append_left n.y split.0 p y)
 
     pub before_apart : (j p : ℕ) → j ≤ i → Contains (sources m ++ given (take j m.nodes)) p → Contains n.y p → ⊥
-    before_apart j p h c y = elim (contained_either (sources m) (given (take j m.nodes)) p c) as (λ _. ⊥) [
+    before_apart j p h c y = elim (Contains-append_cases (sources m) (given (take j m.nodes)) p c) as (λ _. ⊥) [
       | inl a ↦ source_apart p a y
       | inr a ↦ earlier_apart p (flat_front (λ (k : NodeOf). k.y) m.nodes j i p h a) y
     ]

@@ -11,7 +11,8 @@ use Rattle.model_core.specs.Shape.{ModelOf, IsDistinct}
 use Rattle.model_core.specs.Meaning.{row_at}
 use Rattle.frame_gates.specs.Frames.{IsTable, cycle_of, lit_at, lits_at}
 use Rattle.frame_gates.specs.Rows.{IsWritten}
-use Rattle.frame_gates.proofs.Lists.{all_at, all_from, below_or_last, contained_at, get_at, map_map, one_at, same_list}
+use Rattle.model_core.proofs.Lists.{all_at, all_from, below_or_last, contained_at}
+use Rattle.frame_gates.proofs.Lists.{get_at, map_map, one_at, same_list}
 
 -- the row at places
 pub read_row : (x : Assignment) (table : List LitOf) (places : List ℕ) → row_of x (lits_at table places) ≡ row_at (cycle_of table x) places

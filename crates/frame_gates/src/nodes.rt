@@ -60,7 +60,7 @@ fn node_row(
     }
 }
 
-// The same literals.
+// Returns a copy of the literals.
 fn copy(alloc: Global, gates: &mut Gates, a: &[Lit]) -> Result<Vec<Lit>, GateFault>
     requires a { All (LitWithin gates.old.formula.vars) a.now }
     requires width { length a.now < 2 ^ 32 }

@@ -10,7 +10,8 @@ use Rattle.model_core.specs.Shape.{ModelOf, states}
 use Rattle.model_core.specs.Meaning.{Assumed, Broken, next_states}
 use Rattle.bit_net.specs.Reaching.{numbers}
 use Rattle.frame_gates.specs.Frames.{IsFrameOver, Tells, cycle_of}
-use Rattle.frame_gates.proofs.Lists.{all_from, one_at}
+use Rattle.model_core.proofs.Lists.{all_from}
+use Rattle.frame_gates.proofs.Lists.{one_at}
 use Rattle.std.proofs.lemmas.Option.{slice_get_within}
 use Rattle.frame_gates.proofs.Reading.{all_more, table_later}
 use Rattle.frame_net.specs.Making.{IsCycle, IsFreeRow, TellCovers, TellsAsserted, row_from}

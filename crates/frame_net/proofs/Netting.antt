@@ -24,7 +24,9 @@ use Rattle.bit_net.specs.declared.node.State.{State}
 use Rattle.bit_net.proofs.Lists.{in_numbers, numbers_in}
 use Rattle.bit_net.proofs.Extending.{one_frame}
 use Rattle.frame_gates.specs.Frames.{Tells, cycle_of, lit_at, lits_at}
-use Rattle.frame_gates.proofs.Lists.{all_at, all_contained, all_of, contained_either, length_map, map_at, map_map, map_same, one_at, place_of_contained}
+use Rattle.std.proofs.lemmas.List.Elements.{Contains-append_cases}
+use Rattle.model_core.proofs.Lists.{all_at, place_of_contained}
+use Rattle.frame_gates.proofs.Lists.{all_contained, all_of, length_map, map_at, map_map, map_same, one_at}
 use Rattle.frame_net.specs.Making.{AreInOrder, HasEach, IsCycle, TellsAsserted, row_from}
 use Rattle.frame_net.specs.NetOf.{IsAlike, IsNetOf, SaysTheSame}
 use Rattle.frame_net.proofs.Rows.{row_from-at}
@@ -136,7 +138,7 @@ module _ (m : ModelOf) (is : IsModel m) (g : GatesOf) (gates : IsGates g) (kept 
           ap (lit_in y) (one_at (row_from low long) k (lit_at cycle.table p) (lit_of (low + k) true) r (row_from-at low long k l))
 
       agree : Agree m c (cycle_of cycle.table y)
-      agree = frames_same m is c (cycle_of cycle.table y) whole (cycle.frame.frame y s) (λ p h. elim (contained_either (states m) m.inputs p h) as (λ _. c p ≡ cycle_of cycle.table y p) [
+      agree = frames_same m is c (cycle_of cycle.table y) whole (cycle.frame.frame y s) (λ p h. elim (Contains-append_cases (states m) m.inputs p h) as (λ _. c p ≡ cycle_of cycle.table y p) [
         | inl i ↦
             let (k, at) = place_of_contained (states m) p i in
             let l = slice_get_within (states m) k p at in

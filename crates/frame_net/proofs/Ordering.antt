@@ -7,7 +7,8 @@ use Rattle.std.proofs.lemmas.Option.{slice_get_within}
 use Rattle.cnf_form.specs.Cnf.{LitOf}
 use Rattle.gate_graph.specs.declared.gate.Gate.{Gate}
 use Rattle.gate_graph.specs.Kept.{lit_of}
-use Rattle.frame_gates.proofs.Lists.{all_at, contained_at, one_at, place_of_contained}
+use Rattle.model_core.proofs.Lists.{all_at, contained_at, place_of_contained}
+use Rattle.frame_gates.proofs.Lists.{one_at}
 use Rattle.frame_net.specs.Making.{AreInOrder, HasEach}
 
 -- the first entries stand at the places of their variables

@@ -8,7 +8,7 @@ use Rattle.model_core.specs.Meaning as model
 use Rattle.model_core.specs.Meaning.{Cycle, next_states, row_at}
 use Rattle.model_core.specs.Served.{IsModel}
 use Rattle.model_core.proofs.Frames.{some_frame}
-use Rattle.model_core.proofs.Lists.{app_left, app_right}
+use Rattle.model_core.proofs.Lists.{app_left, app_right, at_place, contained_at}
 use Rattle.model_core.proofs.Runs.{follows_row, next_states_wide, row_follows}
 use Rattle.model_core.proofs.Writing.{written, written_row}
 use Rattle.bit_net.specs.Net as net
@@ -16,7 +16,7 @@ use Rattle.bit_net.specs.Net.{IsNet, NetOf, gate_var, input_var, state_var}
 use Rattle.bit_net.specs.Reaching.{numbers}
 use Rattle.bit_net.specs.declared.node.State.{State}
 use Rattle.bit_net.proofs.Extending.{some_frame as some_net_frame}
-use Rattle.frame_gates.proofs.Lists.{at_place, contained_at, length_map, map_at, one_at, same_list}
+use Rattle.frame_gates.proofs.Lists.{length_map, map_at, one_at, same_list}
 use Rattle.frame_net.specs.NetOf.{AreAlike, IsAlike, IsNetOf}
 use Rattle.frame_net.proofs.Rows.{length-numbers, numbers-at}
 

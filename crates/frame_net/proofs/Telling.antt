@@ -6,7 +6,7 @@ use Rattle.gate_graph.specs.Laws.{keeps}
 use Rattle.model_core.specs.Shape.{ModelOf}
 use Rattle.model_core.specs.Meaning.{Reached}
 use Rattle.frame_gates.specs.Frames.{Tells, cycle_of}
-use Rattle.frame_gates.proofs.Lists.{length-push, push-either}
+use Rattle.model_core.proofs.Lists.{length-push, push-either}
 use Rattle.frame_net.specs.Making.{TellCovers}
 
 pub tells_later : (g h : GatesOf) (holds : Assignment → Type 0) (l : LitOf) → Continues g h → Tells g holds l → Tells h holds l

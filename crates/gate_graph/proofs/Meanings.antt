@@ -1,4 +1,4 @@
--- What a call for a gate comes to has the gate's value.
+-- What a call for a gate returns has the gate's value.
 use Rattle.std.proofs.Common.{◌≡◌, Bool, true, false, cond, not, ◌&&◌, refl, sym, ◌∙◌, ap, subst}
 use Rattle.cnf_form.specs.Cnf.{LitOf, Assignment, lit_in, negate}
 use Rattle.cnf_form.proofs.Literals.{same_by_eq}

@@ -138,7 +138,7 @@ fold_mux s a b =
     else if s.negated then key_mux (negate s) b a
     else key_mux s a b
 
--- what a call for a gate comes to
+-- what a call for a gate returns
 abbrev pub asked : Gate → Asked
 asked (And a b) = fold_and a b
 asked (Xor a b) = fold_xor a b

@@ -1,4 +1,4 @@
-// Gates, and what a call for one comes to.
+// Gates, and what a call for one returns.
 
 ghost use Rattle.std.specs.Prelude.{◌≡◌, OnOk, OnErr, ◌++◌};
 ghost use Rattle.cnf_form.specs.Cnf.{LitWithin};
@@ -21,7 +21,7 @@ pub enum Gate {
     Maj(Lit, Lit, Lit),
 }
 
-// What a call for a gate comes to.
+// What a call for a gate returns.
 #[derive(Clone, Copy, PartialEq, Eq)]
 pub enum Asked {
     // A literal that is there.
@@ -247,7 +247,7 @@ fn mux(s: Lit, a: Lit, b: Lit) -> Asked
     }
 }
 
-// What a call for the gate comes to.
+// What a call for the gate returns.
 pub(crate) fn fold(gate: Gate) -> Asked
     ensures { result ≡ asked gate }
 {

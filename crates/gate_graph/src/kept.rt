@@ -174,7 +174,7 @@ impl Kept {
         self.entries.as_slice()
     }
 
-    // The same, alone.
+    // Returns the entries alone.
     pub fn into_entries(self) -> Vec<(Gate, Lit)>
         ensures { result.items ≡ self }
     {

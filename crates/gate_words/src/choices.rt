@@ -31,7 +31,7 @@ pub fn mux(
     Ok(word)
 }
 
-// The same literals.
+// Returns a copy of the literals.
 pub(crate) fn copied(alloc: Global, a: &[Lit]) -> Result<Vec<Lit>, AllocError>
     ensures { IfOk result (λ word. word.items ≡ a.now) }
 {

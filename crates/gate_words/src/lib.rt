@@ -9,11 +9,11 @@
 mod bitwise;
 mod choices;
 mod division;
+mod predicates;
 mod shifts;
-mod tests_of_words;
 
 pub use bitwise::{binary, unary};
 pub use choices::{bmux, concat, mux, pmux, slice};
 pub use division::divide;
+pub use predicates::{compare, logic, reduce};
 pub use shifts::{shift_any, shift_left, shift_right, shift_sign};
-pub use tests_of_words::{compare, logic, reduce};

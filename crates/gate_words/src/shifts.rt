@@ -8,7 +8,7 @@ ghost use Rattle.cell_table.specs.Cells.{any_shift_fn, left_shift_fn, mux_fn, ri
 ghost use Rattle.gate_words.specs.Words.{Builds, IsFull, MeansRow, moved_row, row_of, square, way_lits};
 
 use crate::choices::{copied, mux};
-use crate::tests_of_words::any;
+use crate::predicates::any;
 use cnf_form::Lit;
 use gate_graph::{GateFault, Gates};
 use gate_rows::{extended, fill_of, moved_down, moved_up, negated};
@@ -260,7 +260,7 @@ fn moved_signed(
     Ok(word)
 }
 
-// The same by the sign of `b` where `signed`.
+// Shifts down by `b`; up where it is `signed` and negative.
 fn moved_any(
     alloc: Global,
     gates: &mut Gates,

@@ -36,7 +36,7 @@ IsFixedByUnit F v = (b : Bool) × Contains F (record { var = v; negated = b } �
 abbrev pub IsFixed : List (List LitOf) → ℕ → Type 0
 IsFixed F v = (b : Bool) × Closure F (record { var = v; negated = b })
 
--- Where every free variable is fixed by a unit clause, whatever else is added, unit propagation comes to a conflict or fixes every
+-- Where every free variable is fixed by a unit clause, whatever else is added, unit propagation finds a conflict or fixes every
 -- variable.
 pub record Propagates (e : EncodedOf) : Type 0 where
   pub rule : (more : List (List LitOf)) → ((v : ℕ) → Contains e.free_vars v → IsFixedByUnit (e.formula.clauses ++ more) v)

@@ -16,7 +16,7 @@ use Rattle.design_core.specs.declared.names.ParameterName.TheVariants.{ArstValue
 use Rattle.design_core.specs.declared.names.PortName.{PortName}
 use Rattle.design_core.specs.declared.names.PortName.TheVariants.{A, B, S, En, D, Srst, Arst}
 use Rattle.design_core.specs.declared.table.Role.{Role}
-use Rattle.design_core.specs.declared.table.Role.TheVariants.{Combinational, Register, ResetRegister, Constant, Initial, Source, Statement, Unsupported}
+use Rattle.design_core.specs.declared.table.Role.TheVariants.{Combinational, Register, AsyncResetRegister, Constant, Initial, Source, Statement, Unsupported}
 use Rattle.design_core.proofs.Lists.{Contains-from_place, one_at, place-from_Contains}
 use Rattle.design_core.proofs.Places.{place_of-same, place_of-within, sum_by-before}
 use Rattle.design_graph.specs.Order.{IsOrder}
@@ -96,16 +96,16 @@ module _ (d : DesignOf) (shape : IsDesign d) where
 abbrev pub IsOutputRead : DesignOf → CellOf → Type 0
 IsOutputRead d c = (l : ℕ) × (b : SigBit) × (slice_get (output_of c) l ≡ Some b) × IsReadOtherwise d b
 
--- what is said of a place: of the bit there, and of the cell whose kept row has a bit there
+-- what is said of a place: of the bit there, and of the cell whose stored row has a bit there
 pub record IsReadThere (d : DesignOf) (p : ℕ) : Type 0 where
   pub bits : (b : SigBit) → IsDeclared d.wires d.free b → IsVariable b → p ≡ place_of d b → IsReadOtherwise d b
   pub kept : (i : ℕ) (c : CellOf) → IsCell d i c → IsKeptAt d i c p → IsOutputRead d c
 
 module _ (d : DesignOf) (shape : IsDesign d) (flat : IsFlat d) where
-  width-is : (c : CellOf) → role_of c.kind ≡ ResetRegister → kept_width c ≡ length (output_of c)
+  width-is : (c : CellOf) → role_of c.kind ≡ AsyncResetRegister → kept_width c ≡ length (output_of c)
   width-is c role = ap (λ (r : Role). kept_by_role r (length (output_of c))) role
 
-  -- a kept row's place is of one cell
+  -- a stored row's place is of one cell
   one-keeper : (i j : ℕ) (c e : CellOf) (p : ℕ) → IsCell d i c → IsKeptAt d i c p → IsCell d j e → IsKeptAt d j e p → i ≡ j
   one-keeper i j c e p at k at' l =
       let wide = width-is c k.1 in
@@ -122,7 +122,7 @@ module _ (d : DesignOf) (shape : IsDesign d) (flat : IsFlat d) where
         ]
       ]
 
-  -- a bit's place is none of a kept row
+  -- a bit's place is none of a stored row
   no-keeper : (i : ℕ) (c : CellOf) (b : SigBit) (p : ℕ) → IsDeclared d.wires d.free b → p ≡ place_of d b → IsKeptAt d i c p → ⊥
   no-keeper i c b p declared e k = let here = k.3 in absurd (omega (arith, e, here, place_of-within d b declared))
 
@@ -228,7 +228,7 @@ module _ (d : DesignOf) (shape : IsDesign d) (flat : IsFlat d) where
                 let read = (cone-there (state_place d s) cone).bits b.0 (output-declared d shape i c b.0 at b.1) wire (sym (ap (state_place d) b.2)) in
                 subst (λ (t : StateBit). IsStateRead d t) b.2 read
 
-            kept : role_of c.kind ≡ ResetRegister → Contains (map (λ k. Kept i k) (range_with_len 0 (length (output_of c)))) s → IsStateRead d s
+            kept : role_of c.kind ≡ AsyncResetRegister → Contains (map (λ k. Kept i k) (range_with_len 0 (length (output_of c)))) s → IsStateRead d s
             kept role g =
                 let k = map-member (λ x. Kept i x) (range_with_len 0 (length (output_of c))) s g in
                 let out = (cone-there (state_place d s) cone).kept i c at (k.0, role, in-range (length (output_of c)) k.0 k.1, sym (ap (state_place d) k.2)) in
@@ -237,7 +237,7 @@ module _ (d : DesignOf) (shape : IsDesign d) (flat : IsFlat d) where
             by : (r : Role) → role_of c.kind ≡ r → Contains (state_of_role r (map (λ b. Signal b) (output_of c)) (map (λ k. Kept i k) (range_with_len 0 (length (output_of c))))) s → IsStateRead d s
             by Combinational e g = none g
             by Register e g = shown g
-            by ResetRegister e g = kept e g
+            by AsyncResetRegister e g = kept e g
             by Constant e g = shown g
             by Initial e g = shown g
             by Source e g = none g

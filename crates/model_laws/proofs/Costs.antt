@@ -18,7 +18,7 @@ use Rattle.design_core.specs.declared.names.PortName.{PortName}
 use Rattle.design_core.specs.declared.names.PortName.TheVariants.{A, B, S}
 use Rattle.design_core.specs.declared.table.PortWidth.TheVariants.{One}
 use Rattle.design_core.specs.declared.table.Role.{Role}
-use Rattle.design_core.specs.declared.table.Role.TheVariants.{Combinational, Register, ResetRegister, Constant, Initial, Source, Statement, Unsupported}
+use Rattle.design_core.specs.declared.table.Role.TheVariants.{Combinational, Register, AsyncResetRegister, Constant, Initial, Source, Statement, Unsupported}
 use Rattle.design_core.proofs.Lists.{Contains-from_place}
 use Rattle.design_graph.specs.Order.{IsOrder}
 use Rattle.design_graph.specs.declared.driver.Driver.{Driver}
@@ -127,7 +127,7 @@ state-long p = by (role_of p.1.kind)
     by : (r : Role) → length (state_of_role r (map (λ b. Signal b) (output_of p.1)) (map (λ k. Kept p.0 k) (range_with_len 0 (length (output_of p.1))))) ≡ state_width r (length (output_of p.1))
     by Combinational = refl
     by Register = signals
-    by ResetRegister = length-map (range_with_len 0 (length (output_of p.1))) (λ k. Kept p.0 k) ∙ range-long 0 (length (output_of p.1))
+    by AsyncResetRegister = length-map (range_with_len 0 (length (output_of p.1))) (λ k. Kept p.0 k) ∙ range-long 0 (length (output_of p.1))
     by Constant = signals
     by Initial = signals
     by Source = refl
@@ -173,7 +173,7 @@ module _ (d : DesignOf) (shape : IsDesign d) (flat : IsFlat d) where
       (cell-node-sized d shape flat i c at role))
       (omega (arith, a, b, y, operands-most c))
 
-  reset-most : (i : ℕ) (c : CellOf) → IsCell d i c → role_of c.kind ≡ ResetRegister → node_gates (reset_node d i c) ≡ length (output_of c)
+  reset-most : (i : ℕ) (c : CellOf) → IsCell d i c → role_of c.kind ≡ AsyncResetRegister → node_gates (reset_node d i c) ≡ length (output_of c)
   reset-most i c at role = by (flag c ArstPolarity)
     where
       kept : length (kept_places d i (length (output_of c))) ≡ length (output_of c)
@@ -194,7 +194,7 @@ module _ (d : DesignOf) (shape : IsDesign d) (flat : IsFlat d) where
       by : (role : Role) → role_of is.0.kind ≡ role → IsNodeOfRole role d i is.0 n → node_gates n ≤ gates_within role (cell_cost is.0) (length (output_of is.0))
       by Combinational e h = subst (λ (y : NodeOf). node_gates y ≤ cell_cost is.0) (sym h) (combinational-most i is.0 is.1 e)
       by Register e h = absurd h
-      by ResetRegister e h = subst (λ (y : NodeOf). node_gates y ≤ length (output_of is.0)) (sym h) (omega (arith, reset-most i is.0 is.1 e))
+      by AsyncResetRegister e h = subst (λ (y : NodeOf). node_gates y ≤ length (output_of is.0)) (sym h) (omega (arith, reset-most i is.0 is.1 e))
       by Constant e h = absurd h
       by Initial e h = absurd h
       by Source e h = absurd h

@@ -16,7 +16,7 @@ use Rattle.design_core.specs.declared.names.PortName.{PortName}
 use Rattle.design_core.specs.declared.names.PortName.TheVariants.{A, B, S, En, Y, Clk, D, Q, Srst, Arst}
 use Rattle.design_core.specs.declared.parts.Port.{Port}
 use Rattle.design_core.specs.declared.table.Role.{Role}
-use Rattle.design_core.specs.declared.table.Role.TheVariants.{Combinational, Register, ResetRegister, Constant, Initial, Source, Statement, Unsupported}
+use Rattle.design_core.specs.declared.table.Role.TheVariants.{Combinational, Register, AsyncResetRegister, Constant, Initial, Source, Statement, Unsupported}
 use Rattle.design_meaning.specs.Meaning.{is_assert, is_assume, is_cover}
 use Rattle.frame_gates.specs.Costs.{op_gates}
 use Rattle.model_laws.specs.Cost.{is_square, port_bits}
@@ -110,7 +110,7 @@ node-most Unknown sa sb offset a b y bits r some h = absurd cc
 abbrev pub state_width : Role → ℕ → ℕ
 state_width Combinational out = 0
 state_width Register out = out
-state_width ResetRegister out = out
+state_width AsyncResetRegister out = out
 state_width Constant out = out
 state_width Initial out = out
 state_width Source out = 0
@@ -120,7 +120,7 @@ state_width Unsupported out = 0
 abbrev pub gates_within : Role → ℕ → ℕ → ℕ
 gates_within Combinational cost out = cost
 gates_within Register cost out = 0
-gates_within ResetRegister cost out = out
+gates_within AsyncResetRegister cost out = out
 gates_within Constant cost out = 0
 gates_within Initial cost out = 0
 gates_within Source cost out = 0

@@ -15,7 +15,7 @@ use Rattle.design_core.specs.declared.names.ParameterName.TheVariants.{ArstPolar
 use Rattle.design_core.specs.declared.names.PortName.{PortName}
 use Rattle.design_core.specs.declared.names.PortName.TheVariants.{A, B, S, En, D, Srst, Arst}
 use Rattle.design_core.specs.declared.table.Role.{Role}
-use Rattle.design_core.specs.declared.table.Role.TheVariants.{Combinational, Register, ResetRegister, Constant, Initial, Source, Statement, Unsupported}
+use Rattle.design_core.specs.declared.table.Role.TheVariants.{Combinational, Register, AsyncResetRegister, Constant, Initial, Source, Statement, Unsupported}
 use Rattle.design_core.proofs.Lists.{Contains-from_place, one_at, place-from_Contains}
 use Rattle.design_graph.specs.declared.driver.Driver.{Driver}
 use Rattle.design_graph.specs.declared.driver.Driver.TheVariants.{Cell, Connect}
@@ -51,9 +51,9 @@ IsLinked d r p = (a : SigBit) × (b : SigBit) × IsConnected d a b × (r ≡ pla
 
 -- the bit at the place is of the row that the cell at place i keeps
 abbrev pub IsKeptAt : DesignOf → ℕ → CellOf → ℕ → Type 0
-IsKeptAt d i c p = (k : ℕ) × (role_of c.kind ≡ ResetRegister) × (k < length (output_of c)) × (p ≡ kept_place d i k)
+IsKeptAt d i c p = (k : ℕ) × (role_of c.kind ≡ AsyncResetRegister) × (k < length (output_of c)) × (p ≡ kept_place d i k)
 
--- a bit of the output stands at r, a bit of the kept row at p
+-- a bit of the output stands at r, a bit of the stored row at p
 abbrev pub IsShown : DesignOf → ℕ → ℕ → Type 0
 IsShown d r p = (i : ℕ) × (c : CellOf) × (a : SigBit) × IsCell d i c × Contains (output_of c) a × (r ≡ place_of d a) × IsKeptAt d i c p
 
@@ -169,7 +169,7 @@ module _ (d : DesignOf) where
     statement-read p (inl e) = bit-read A as-a p (sym e)
     statement-read p (inr e) = bit-read En as-en p (sym e)
 
-    kept-at : role_of c.kind ≡ ResetRegister → (p : ℕ) → Contains (kept_places d i (length (output_of c))) p → IsKeptAt d i c p
+    kept-at : role_of c.kind ≡ AsyncResetRegister → (p : ℕ) → Contains (kept_places d i (length (output_of c))) p → IsKeptAt d i c p
     kept-at role p h =
         let m = map-member (kept_place d i) (range_with_len 0 (length (output_of c))) p h in
         (m.0, role, in-range (length (output_of c)) m.0 m.1, sym m.2)
@@ -187,7 +187,7 @@ module _ (d : DesignOf) where
       ]
     ])
 
-    reset-reads : role_of c.kind ≡ ResetRegister → (r p : ℕ) → Contains (signal_places d (output_of c)) r → Contains (reads (reset_node d i c)) p → Step d r p
+    reset-reads : role_of c.kind ≡ AsyncResetRegister → (r p : ℕ) → Contains (signal_places d (output_of c)) r → Contains (reads (reset_node d i c)) p → Step d r p
     reset-reads role r p out = by (flag c ArstPolarity)
       where
         kept : Contains (kept_places d i (length (output_of c))) p → Step d r p
@@ -231,7 +231,7 @@ module _ (d : DesignOf) where
     register-bit Register e g k r p is out h =
         table-bit (signal_places d (output_of c)) k r p
         (subst (λ (z : RegisterOf). Decides z k p) (sym (only-one (table_register d c (signal_places d (output_of c))) g is)) h)
-    register-bit ResetRegister e g k r p is out h =
+    register-bit AsyncResetRegister e g k r p is out h =
         table-bit (kept_places d i (length (output_of c))) k r p
         (subst (λ (z : RegisterOf). Decides z k p) (sym (only-one (table_register d c (kept_places d i (length (output_of c)))) g is)) h)
     register-bit Constant e g k r p is out h =
@@ -254,7 +254,7 @@ module _ (d : DesignOf) where
       by : (role : Role) → role_of is.0.kind ≡ role → IsNodeOfRole role d i is.0 y → Contains y.y r → Contains (reads y) p → Step d r p
       by Combinational e n shown read = cell-reads i is.0 is.1 r p (subst (λ (z : NodeOf). Contains (reads z) p) n read)
       by Register e n shown read = absurd n
-      by ResetRegister e n shown read =
+      by AsyncResetRegister e n shown read =
           reset-reads i is.0 is.1 e r p (subst (λ (z : NodeOf). Contains z.y r) n shown) (subst (λ (z : NodeOf). Contains (reads z) p) n read)
       by Constant e n shown read = absurd n
       by Initial e n shown read = absurd n

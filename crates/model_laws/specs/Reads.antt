@@ -30,7 +30,7 @@ ReadsOtherwise c b =
 abbrev pub IsReadOtherwise : DesignOf → SigBit → Type 0
 IsReadOtherwise d b = (n : ℕ) × (a : SigBit) × Chain d n a b × ((i : ℕ) × (c : CellOf) × IsCell d i c × ReadsOtherwise c a)
 
--- a state bit is read; of a kept row where some bit of the register's output is
+-- a state bit is read; of a stored row where some bit of the register's output is
 abbrev pub IsStateRead : DesignOf → StateBit → Type 0
 IsStateRead d (Signal b) = IsReadOtherwise d b
 IsStateRead d (Kept i k) = (c : CellOf) × (l : ℕ) × (b : SigBit) × IsCell d i c × (slice_get (output_of c) l ≡ Some b) × IsReadOtherwise d b

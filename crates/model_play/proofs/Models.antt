@@ -43,6 +43,13 @@ in_states [] i r g p h = absurd (let z : None ≡ Some r = g in cc)
 in_states (k ∷ rs) zero r g p h = let z : r ≡ k = cc in contains_left k.q (flat_map (λ k. k.q) rs) p (subst (λ (n : RegisterOf). Contains n.q p) z h)
 in_states (k ∷ rs) (suc i) r g p h = contains_right k.q (flat_map (λ k. k.q) rs) p (in_states rs i r g p h)
 
+-- What a cycle leaves: a table of the model, whose rows are those that were held and came in.
+pub record IsTurn (m : ModelOf) (was ins new : Row) : Type 0 where
+  pub table : IsTable m new
+  pub frame : Frame m (cycle_of new)
+  pub held : row_at (cycle_of new) (states m) ≡ was
+  pub inputs : row_at (cycle_of new) m.inputs ≡ ins
+
 module _ (m : ModelOf) (is : IsModel m) where
   module _ (i : ℕ) (n : NodeOf) (e : slice_get m.nodes i ≡ Some n) (size : ℕ) (ps : List ℕ) (es : size ≡ m.size) where
     pub a_below : ps ≡ n.a → AreBelow size ps
@@ -139,18 +146,17 @@ module _ (m : ModelOf) (is : IsModel m) where
         kept p (contained_at (sources m) p k e) ∙ om p (λ h. constant_place k p l e (contains_right (states m) m.inputs p h))
         ∙ ol p (λ h. constant_place k p l e (contains_left (states m) m.inputs p h))
 
-    pub turn_table : IsTable m new
-    turn_table = record { size = ls ∙ t.size; zero = constant_kept 0 m.zero (omega arith) refl ∙ t.zero; one = constant_kept 1 (suc m.zero) (omega arith) refl ∙ t.one }
+    table : IsTable m new
+    table = record { size = ls ∙ t.size; zero = constant_kept 0 m.zero (omega arith) refl ∙ t.zero; one = constant_kept 1 (suc m.zero) (omega arith) refl ∙ t.one }
 
-    pub turn_frame : Frame m (cycle_of new)
-    turn_frame = record { zero = turn_table.zero; one = turn_table.one; nodes = nodes }
-
-    pub turn_inputs : row_at (cycle_of new) m.inputs ≡ ins
-    turn_inputs = row_same (cycle_of new) (cycle_of mid) m.inputs (λ p h. kept p (open_source m is p (contains_right (states m) m.inputs p h))) ∙ wm
-
-    pub turn_held : row_at (cycle_of new) (states m) ≡ held
-    turn_held =
-        row_same (cycle_of new) (cycle_of low) (states m) (λ p h. kept p (open_source m is p (contains_left (states m) m.inputs p h)) ∙ om p (λ g. apart p h g)) ∙ wl
+    pub turned : IsTurn m held ins new
+    turned = record {
+      table = table;
+      frame = record { zero = table.zero; one = table.one; nodes = nodes };
+      held =
+          row_same (cycle_of new) (cycle_of low) (states m) (λ p h. kept p (open_source m is p (contains_left (states m) m.inputs p h)) ∙ om p (λ g. apart p h g)) ∙ wl;
+      inputs = row_same (cycle_of new) (cycle_of mid) m.inputs (λ p h. kept p (open_source m is p (contains_right (states m) m.inputs p h))) ∙ wm;
+    }
 
   -- a first table
   pub first_table : (old : Row) (size q : ℕ) → size ≡ m.size → old ≡ replicate size false → q ≡ m.zero + 1 → IsTable m (set old q true)

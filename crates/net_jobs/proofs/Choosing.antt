@@ -9,7 +9,8 @@ use Rattle.model_core.specs.Served.{IsModel}
 use Rattle.model_core.specs.Shape.{ModelOf, states}
 use Rattle.bit_net.specs.Net.{NetOf, input_var, state_var}
 use Rattle.bit_net.specs.Reaching.{numbers}
-use Rattle.frame_gates.proofs.Lists.{all_from, length_map, map_at, one_at}
+use Rattle.model_core.proofs.Lists.{all_from}
+use Rattle.frame_gates.proofs.Lists.{length_map, map_at, one_at}
 use Rattle.frame_net.specs.NetOf.{IsNetOf}
 use Rattle.frame_net.proofs.Rows.{length-numbers, numbers-at}
 use Rattle.std.proofs.lemmas.Option.{slice_get_within}

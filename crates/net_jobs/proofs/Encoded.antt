@@ -8,7 +8,8 @@ use Rattle.model_core.specs.Choices.{ChoicesOf}
 use Rattle.model_core.specs.Served.{IsModel}
 use Rattle.model_core.specs.Shape.{ModelOf}
 use Rattle.bit_net.specs.Net.{IsNet, NetOf}
-use Rattle.frame_gates.proofs.Lists.{contained_at, map_at, place_of_contained}
+use Rattle.model_core.proofs.Lists.{contained_at, place_of_contained}
+use Rattle.frame_gates.proofs.Lists.{map_at}
 use Rattle.frame_net.specs.NetOf.{IsNetOf}
 use Rattle.job_terms.specs.Encoding as job
 use Rattle.net_unroll.specs.declared.encoded.Free.{Free}

@@ -13,7 +13,7 @@ use Rattle.model_core.specs.Served.{IsModel}
 use Rattle.model_core.specs.Shape.{ModelOf}
 use Rattle.bit_net.specs.Net.{Frame, IsNet, NetOf}
 use Rattle.bit_net.specs.Net as net
-use Rattle.frame_gates.proofs.Lists.{at_place}
+use Rattle.model_core.proofs.Lists.{at_place}
 use Rattle.frame_net.specs.NetOf.{IsAlike, IsNetOf}
 use Rattle.job_terms.specs.Jobs.{IsGoal}
 use Rattle.net_unroll.specs.Asking.{AreCycles, Meets, Solvable as CanSolve}

@@ -15,7 +15,8 @@ use Rattle.model_core.specs.Shape.{IsDistinct, ModelOf, given, sources, states}
 use Rattle.bit_net.specs.Net.{IsNet, NetOf, input_var, state_var}
 use Rattle.bit_net.proofs.Extending.{not_less}
 use Rattle.job_terms.specs.First.{open_at}
-use Rattle.frame_gates.proofs.Lists.{all_of, contained_at, distinct_left, distinct_right, length_map, map_at, one_at, place_of_contained}
+use Rattle.model_core.proofs.Lists.{contained_at, place_of_contained}
+use Rattle.frame_gates.proofs.Lists.{all_of, distinct_left, distinct_right, length_map, map_at, one_at}
 use Rattle.frame_net.specs.NetOf.{IsNetOf}
 use Rattle.job_terms.specs.Encoding as job
 use Rattle.job_terms.specs.Encoding.{AreDistinct, HasOrigins, HasValue, IsOpenIn, IsOrigin, Origin}

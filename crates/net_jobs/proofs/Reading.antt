@@ -13,7 +13,9 @@ use Rattle.model_core.specs.Shape.{ModelOf, states}
 use Rattle.bit_net.specs.Net.{NetOf, input_var, state_var}
 use Rattle.bit_net.specs.Reaching.{numbers}
 use Rattle.bit_net.specs.declared.node.State.{State}
-use Rattle.frame_gates.proofs.Lists.{all_from, contained_at, contained_left, contained_right, length_map, map_map, map_same, place_of_contained}
+use Rattle.std.proofs.lemmas.List.Elements.{Contains-append_right}
+use Rattle.model_core.proofs.Lists.{all_from, contained_at, place_of_contained}
+use Rattle.frame_gates.proofs.Lists.{length_map, map_map, map_same}
 use Rattle.frame_net.specs.NetOf.{IsNetOf}
 use Rattle.frame_net.proofs.Rows.{length-numbers, numbers_append}
 use Rattle.job_terms.specs.Decoding.{FrameOf, bit_of, rows_until}
@@ -116,7 +118,7 @@ module _ (e : EncodedOf) (x : Assignment) (s : Satisfies x (formula_of e).clause
       from l q (suc i) at = absurd cc
 
   pub goal_true : SatisfiesClause x e.goals
-  goal_true = all e.goals (contained_right (clauses_from e.gates) (e.goals ∷ []) e.goals (contained_at (e.goals ∷ []) e.goals 0 refl))
+  goal_true = all e.goals (Contains-append_right (clauses_from e.gates) (e.goals ∷ []) e.goals (contained_at (e.goals ∷ []) e.goals 0 refl))
 
   told_rows : (n : NetOf) (c : Cycles) → rows_until x (decoding_of n c e).frames ≡ map (row_of n e.free x) (numbers 0 (cycles_told c e x))
   told_rows n c =

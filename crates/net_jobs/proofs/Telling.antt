@@ -17,7 +17,8 @@ use Rattle.bit_net.specs.Net.{IsNet, NetOf, input_var, state_var}
 use Rattle.bit_net.specs.Net as net
 use Rattle.bit_net.specs.Reaching.{numbers}
 use Rattle.bit_net.specs.declared.node.State.{State}
-use Rattle.frame_gates.proofs.Lists.{at_place, length_map, map_at, one_at}
+use Rattle.model_core.proofs.Lists.{at_place}
+use Rattle.frame_gates.proofs.Lists.{length_map, map_at, one_at}
 use Rattle.frame_net.specs.NetOf.{AreAlike, IsNetOf}
 use Rattle.frame_net.proofs.Running.{near, near_back, run, run_back, window, window_back}
 use Rattle.job_terms.specs.Encoding.{IsDecoded, ShowsGoal, empty_job}

@@ -80,7 +80,7 @@ pub fn encode(
     net_unroll::encode(alloc, net, asked_of(job), cycles_of(job, span))
 }
 
-/// The same again, of what is known to fit, as from an earlier call. It fails only where memory runs out.
+/// Encodes a job again that is known to fit, as from an earlier call. It fails only where memory runs out.
 pub fn encode_again(
     alloc: Global,
     net: &Net,

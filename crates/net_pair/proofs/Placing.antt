@@ -22,7 +22,8 @@ use Rattle.bit_net.proofs.Extending.Kind.{truth, state, input, gate}
 use Rattle.bit_net.proofs.Lists.{not_both}
 use Rattle.bit_net.proofs.Needing.{node_of_state}
 use Rattle.bit_net.proofs.Searching.{node_of_gate}
-use Rattle.frame_gates.proofs.Lists.{app_cases, length_map, map_at, one_at}
+use Rattle.model_core.proofs.Lists.{app_cases}
+use Rattle.frame_gates.proofs.Lists.{length_map, map_at, one_at}
 use Rattle.net_unroll.proofs.Saying.{node_of_input}
 use Rattle.net_unroll.proofs.Stepping.{lits_up}
 use Rattle.pair_form.specs.declared.pair.Frame.{Frame}
@@ -174,7 +175,7 @@ before_few n Second = omega arith
 pub place_at : {A : Type 0} (xs : List A) (i : ℕ) (x : A) → i < length xs → x ≡ get_or xs i x → slice_get xs i ≡ Some x
 place_at xs i x h e = slice_get-get_or xs i x h ∙ ap Some (sym e)
 
--- how many variables there are once so many of a cycle's gates are there
+-- how many variables there are once this many of a cycle's gates are there
 pub cycle_room : (n : NetOf) (t : Frame) (old mid : GatesOf) (i : ℕ) → old.formula.vars ≡ before_gates n t → mid ≡ with_gates old (map (gate_at n t) (take i n.gates)) → i < length n.gates → mid.formula.vars ≡ before_gates n t + i
 cycle_room n t old mid i v e h =
     let w : mid.formula.vars ≡ old.formula.vars + length (map (gate_at n t) (take i n.gates)) = ap (λ (g : GatesOf). g.formula.vars) e ∙ with_gates_vars old (map (gate_at n t) (take i n.gates)) in

@@ -2,7 +2,7 @@
 use Rattle.std.proofs.Common.{◌≡◌, ℕ, zero, suc, ◌+◌, ◌-◌, ◌<◌, ◌≤◌, ◌^◌, Bool, true, false, not, cond, List, [], ◌∷◌, Option, Some, None, length, map, refl, sym, ap, ◌∙◌, subst, inl, inr, arith, ltb}
 use Rattle.std.specs.Prelude.{◌↔◌, Contains, slice_get, slice_index_or}
 use Rattle.std.proofs.lemmas.Bool.{lt-ltb}
-use Rattle.std.proofs.lemmas.List.Elements.{Contains-append_left, Contains-append_right}
+use Rattle.std.proofs.lemmas.List.Elements.{Contains-append_left, Contains-append_right, Contains-append_cases}
 use Rattle.cnf_form.specs.Cnf.{Assignment, LitOf, Satisfies, lit_in}
 use Rattle.gate_graph.specs.Kept.{clauses_from, lit_of}
 use Rattle.gate_graph.proofs.OneTable.{lit_negated}
@@ -17,7 +17,8 @@ use Rattle.model_core.specs.Meaning as model
 use Rattle.model_core.specs.Served.{IsModel}
 use Rattle.model_core.specs.Shape.{ModelOf, states}
 use Rattle.model_core.specs.declared.model.Statement.{Statement}
-use Rattle.frame_gates.proofs.Lists.{at_place, contained_at, contained_either, length_map, one_at}
+use Rattle.model_core.proofs.Lists.{at_place, contained_at}
+use Rattle.frame_gates.proofs.Lists.{length_map, one_at}
 use Rattle.frame_net.specs.NetOf.{IsAlike, IsNetOf}
 use Rattle.frame_net.proofs.Running.{near, near_back, run, run_back, window, window_back}
 use Rattle.pair_form.specs.Pair.{PairOf, bit_at}
@@ -146,7 +147,7 @@ module _ (m : ModelOf) (n : NetOf) (is : IsModel m) (served : IsNet n) (of : IsN
     )
 
     clauses_tell : (x : Assignment) → net.Frame (both n) x → lit_in x (now n n.assumed) ≡ true → Satisfies x p.formula.clauses
-    clauses_tell x f h c i = elim (contained_either (clauses_from (entries (both n))) ((now n n.assumed ∷ []) ∷ []) c i) as (λ _. (l : LitOf) × Contains c l × (lit_in x l ≡ true)) [
+    clauses_tell x f h c i = elim (Contains-append_cases (clauses_from (entries (both n))) ((now n n.assumed ∷ []) ∷ []) c i) as (λ _. (l : LitOf) × Contains c l × (lit_in x l ≡ true)) [
       | inl j ↦ satisfies (both n) x whole f c j
       | inr j ↦ elim (cases_in (now n n.assumed ∷ []) [] c j) as (λ _. (l : LitOf) × Contains c l × (lit_in x l ≡ true)) [
         | inl z ↦ (now n n.assumed, subst (λ (d : List LitOf). Contains d (now n n.assumed)) z (head_in (now n n.assumed) []), h)

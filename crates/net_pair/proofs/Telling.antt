@@ -17,7 +17,8 @@ use Rattle.bit_net.proofs.Extending.{get_less}
 use Rattle.bit_net.proofs.Lists.{and_both, both_and, cases_in, head_in, none_in, tail_in}
 use Rattle.bit_net.proofs.Needing.{in_flat_map}
 use Rattle.bit_net.proofs.Spreading.{in_numbered}
-use Rattle.frame_gates.proofs.Lists.{app_left, app_right, length_map, map_at}
+use Rattle.model_core.proofs.Lists.{app_left, app_right}
+use Rattle.frame_gates.proofs.Lists.{length_map, map_at}
 use Rattle.net_unroll.proofs.Finished.{gate_holds, gate_says}
 use Rattle.net_unroll.proofs.Means.{flat_in}
 use Rattle.pair_form.specs.declared.pair.Frame.{Frame as Which}

@@ -54,7 +54,7 @@ abbrev pub digits : ℕ → List State → List LitOf
 digits k [] = []
 digits k (s ∷ states) = digit_of k s.start ++ digits (suc k) states
 
--- the gates that say whether literals are all true: each is of one of them, and of what those before it came to; the first has variable v
+-- the gates that say whether literals are all true: each is of one of them, and of the result of those before it; the first has variable v
 abbrev pub chain : ℕ → LitOf → List LitOf → List Gate
 chain v before [] = []
 chain v before (l ∷ ls) = And before l ∷ chain (suc v) (lit_of v true) ls

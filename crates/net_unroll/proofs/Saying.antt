@@ -105,7 +105,7 @@ later_gates t node.Input g e = absurd (let z : open_at t ≡ gated g = e in cc)
 later_gates t (node.Gate k) g e = let z : gated k ≡ gated g = e in let w : k ≡ g = cc in ap node.Gate w
 
 module _ (n : NetOf) (net : IsNet n) (goal : LitOf) (c : Cycles) (i : ℕ → ℕ → Bool) where
-  -- after so many cycles
+  -- after this many cycles
   pub after : ℕ → SaidOf
   after zero = nothing_said
   after (suc t) = said_all i (after t) (cycle n goal c t)

@@ -59,7 +59,7 @@ pub record HasOrigins (n : NetOf) (a : Asked) (c : Cycles) (e : EncodedOf) : Typ
 abbrev pub IsFixedByUnit : List (List LitOf) → ℕ → Type 0
 IsFixedByUnit F v = (b : Bool) × Contains F (record { var = v; negated = b } ∷ [])
 
--- Where every free variable is fixed by a unit clause, whatever else is added, unit propagation comes to a conflict or fixes every
+-- Where every free variable is fixed by a unit clause, whatever else is added, unit propagation finds a conflict or fixes every
 -- variable.
 pub record Propagates (e : EncodedOf) : Type 0 where
   pub rule : (more : List (List LitOf)) → ((f : Free) → Contains e.free f → IsFixedByUnit ((formula_of e).clauses ++ more) f.var)

@@ -186,7 +186,7 @@ pub fn encode(
     }
 }
 
-/// The same again, of what is known to fit, as from an earlier call. Only memory can be wanting.
+/// Encodes a job again that is known to fit, as from an earlier call. It fails only where memory runs out.
 pub fn encode_again(
     alloc: Global,
     net: &Net,

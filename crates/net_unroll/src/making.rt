@@ -36,7 +36,7 @@ fn over(table: &[Lit], lit: Lit) -> Lit
     if lit.is_negated() { new.negate() } else { new }
 }
 
-// The same gate over the table's literals.
+// The gate over the table's literals.
 fn over_gate(table: &[Lit], gate: Gate) -> Gate
     requires { OthersWithin (length table.now - 1) (operands gate) }
     ensures { result ≡ over_gate table.now gate }

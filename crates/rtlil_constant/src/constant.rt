@@ -21,7 +21,7 @@ pub enum Form<'a> {
     Sized(u64, &'a [u8]),
 }
 
-/// The same, with a width that memory has room for.
+/// What a constant's word says, with a width that memory has room for.
 #[derive(Clone, Copy, Drop)]
 pub enum Kept<'a> {
     Decimal(u32),

@@ -18,7 +18,7 @@ use Rattle.design_core.specs.Table.{output_port, role_of}
 use Rattle.design_core.specs.declared.names.ParameterName.TheVariants.{Width}
 use Rattle.design_core.specs.declared.names.PortName.TheVariants.{Y}
 use Rattle.design_core.specs.declared.table.Role.{Role}
-use Rattle.design_core.specs.declared.table.Role.TheVariants.{Combinational, Register, ResetRegister, Constant, Initial, Source, Statement, Unsupported}
+use Rattle.design_core.specs.declared.table.Role.TheVariants.{Combinational, Register, AsyncResetRegister, Constant, Initial, Source, Statement, Unsupported}
 use Rattle.design_core.proofs.Lists.{Contains-from_place, one_at, place-from_Contains}
 use Rattle.design_core.proofs.Places.{place_of-same}
 use Rattle.design_graph.specs.declared.item.Item.TheVariants.{Cell as CellItem, Connect as ConnectItem}
@@ -87,7 +87,7 @@ concat-rows f (x ∷ xs) = concat-append (f x) (flat_map f xs) ∙ ap (λ (l : L
 in-role : (r : Role) (output : List ℕ) (p : ℕ) → Contains (concat (row_of_role r output)) p → (r ≡ Source) × Contains output p
 in-role Combinational output p h = absurd (nothing p h)
 in-role Register output p h = absurd (nothing p h)
-in-role ResetRegister output p h = absurd (nothing p h)
+in-role AsyncResetRegister output p h = absurd (nothing p h)
 in-role Constant output p h = absurd (nothing p h)
 in-role Initial output p h = absurd (nothing p h)
 in-role Source output p h = (refl, subst (λ (l : List ℕ). Contains l p) (append-nil output) h)
@@ -170,7 +170,7 @@ module _ (d : DesignOf) (shape : IsDesign d) (flat : IsFlat d) where
       by : (r : Role) → Distinct (concat (row_of_role r (signal_places d (output_of c))))
       by Combinational = distinct-none
       by Register = distinct-none
-      by ResetRegister = distinct-none
+      by AsyncResetRegister = distinct-none
       by Constant = distinct-none
       by Initial = distinct-none
       by Source = subst (λ (l : List ℕ). Distinct l) (sym (append-nil (signal_places d (output_of c)))) row
@@ -199,7 +199,7 @@ module _ (d : DesignOf) (shape : IsDesign d) (flat : IsFlat d) where
   row-wide : (row : List ℕ) (i : ℕ) (c : CellOf) → IsCell d i c → (role : Role) → role_of c.kind ≡ role → Contains (row_of_role role (signal_places d (output_of c))) row → (1 ≤ length row) × (length row ≤ 4096)
   row-wide row i c cell Combinational e h = absurd (nothing row h)
   row-wide row i c cell Register e h = absurd (nothing row h)
-  row-wide row i c cell ResetRegister e h = absurd (nothing row h)
+  row-wide row i c cell AsyncResetRegister e h = absurd (nothing row h)
   row-wide row i c cell Constant e h = absurd (nothing row h)
   row-wide row i c cell Initial e h = absurd (nothing row h)
   row-wide row i c cell Source e h = subst (λ (l : List ℕ). (1 ≤ length l) × (length l ≤ 4096)) (only-one (signal_places d (output_of c)) row h) (source-width i c cell e)

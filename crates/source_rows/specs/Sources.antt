@@ -5,14 +5,14 @@ use Rattle.design_core.specs.Asked.{output_of}
 use Rattle.design_core.specs.Shape.{CellOf, DesignOf}
 use Rattle.design_core.specs.Table.{role_of}
 use Rattle.design_core.specs.declared.table.Role.{Role}
-use Rattle.design_core.specs.declared.table.Role.TheVariants.{Combinational, Register, ResetRegister, Constant, Initial, Source, Statement, Unsupported}
+use Rattle.design_core.specs.declared.table.Role.TheVariants.{Combinational, Register, AsyncResetRegister, Constant, Initial, Source, Statement, Unsupported}
 use Rattle.word_model.specs.Layout.{signal_places}
 
 -- an `$anyseq` has a row, and no other cell has one
 abbrev pub row_of_role : Role → List ℕ → List (List ℕ)
 row_of_role Combinational output = []
 row_of_role Register output = []
-row_of_role ResetRegister output = []
+row_of_role AsyncResetRegister output = []
 row_of_role Constant output = []
 row_of_role Initial output = []
 row_of_role Source output = output ∷ []

@@ -50,7 +50,7 @@ fn push_source(
         }
         Role::Combinational
         | Role::Register
-        | Role::ResetRegister
+        | Role::AsyncResetRegister
         | Role::Constant
         | Role::Initial
         | Role::Statement

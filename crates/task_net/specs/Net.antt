@@ -72,7 +72,7 @@ task_encoded t job span = record {
 }
 
 -- What is promised of a job's encoding: its formula can be satisfied exactly where the job can be solved, and has from 1 to 2 ^ 27
--- variables; where its free variables are fixed, unit propagation comes to a conflict or fixes all others; each of these stands for a bit
+-- variables; where its free variables are fixed, unit propagation finds a conflict or fixes all others; each of these stands for a bit
 -- in the cone that the job leaves free; where nothing is asked the formula is one variable and the empty clause; and, but for Step, each
 -- assignment tells choices for a run of the model, and one that satisfies the formula those for a run that shows the job's goal.
 pub record IsEncodedJob (m : ModelOf) (job : JobName) (span : Span) (e : EncodedOf) : Type 0 where

@@ -14,7 +14,7 @@ use Rattle.design_core.specs.declared.digit.Digit.{Digit}
 use Rattle.design_core.specs.declared.digit.Digit.TheVariants.{Const as ConstDigit, Free as FreeDigit, Marker}
 use Rattle.design_core.specs.declared.names.PortName.TheVariants.{A, En}
 use Rattle.design_core.specs.declared.table.Role.{Role}
-use Rattle.design_core.specs.declared.table.Role.TheVariants.{Combinational, Register, ResetRegister, Constant, Initial, Source, Statement, Unsupported}
+use Rattle.design_core.specs.declared.table.Role.TheVariants.{Combinational, Register, AsyncResetRegister, Constant, Initial, Source, Statement, Unsupported}
 use Rattle.design_core.proofs.Lists.{Contains-from_place}
 use Rattle.design_graph.proofs.Declared.{All-signal_at, All-digits_at, cell-declared, connect-declared, outputs-declared}
 use Rattle.design_meaning.specs.Meaning.{Valuation, Frame, Follows, Starts, Assumed, Broken, Reached, IsCell, bit_in, row_in, digit_in, digits_in, parameters_in, ports_in, kept_row, held_row, row_of_role, shown_row, is_assert, is_assume, is_cover}
@@ -80,15 +80,15 @@ module _ (d : DesignOf) (shape : IsDesign d) (v w : Valuation) (same : IsAlike d
     output-alike : row_in v (output_of c) ≡ row_in w (output_of c)
     output-alike = row-alike (output_of c) (outputs-declared d.wires d.free c is)
 
-    kept-alike : role_of c.kind ≡ ResetRegister → kept_row v i c ≡ kept_row w i c
+    kept-alike : role_of c.kind ≡ AsyncResetRegister → kept_row v i c ≡ kept_row w i c
     kept-alike e =
         range-same (v.kept i) (w.kept i) (length (output_of c)) 0
         (λ k from to. same.kept i k c at (let n : kept_width c ≡ length (output_of c) = ap (λ (r : Role). kept_by_role r (length (output_of c))) e in omega (arith, to, n)))
 
-    held-by : (r : Role) → (r ≡ ResetRegister → kept_row v i c ≡ kept_row w i c) → row_of_role r (row_in v (output_of c)) (kept_row v i c) ≡ row_of_role r (row_in w (output_of c)) (kept_row w i c)
+    held-by : (r : Role) → (r ≡ AsyncResetRegister → kept_row v i c ≡ kept_row w i c) → row_of_role r (row_in v (output_of c)) (kept_row v i c) ≡ row_of_role r (row_in w (output_of c)) (kept_row w i c)
     held-by Combinational h = refl
     held-by Register h = output-alike
-    held-by ResetRegister h = h refl
+    held-by AsyncResetRegister h = h refl
     held-by Constant h = output-alike
     held-by Initial h = output-alike
     held-by Source h = refl
@@ -98,11 +98,11 @@ module _ (d : DesignOf) (shape : IsDesign d) (v w : Valuation) (same : IsAlike d
     held-alike : held_row v i c ≡ held_row w i c
     held-alike = held-by (role_of c.kind) kept-alike
 
-    shown-alike : role_of c.kind ≡ ResetRegister → shown_row v i c ≡ shown_row w i c
+    shown-alike : role_of c.kind ≡ AsyncResetRegister → shown_row v i c ≡ shown_row w i c
     shown-alike e =
-        ap (λ (q : Ports). cond (is_reset ResetRegister (parameters_in v c) q) (reset_value ResetRegister (parameters_in v c)) (kept_row v i c)) ports-alike
-        ∙ (ap (λ (p : Parameters). cond (is_reset ResetRegister p (ports_in w c)) (reset_value ResetRegister p) (kept_row v i c)) parameters-alike
-        ∙ ap (λ (r : Row). cond (is_reset ResetRegister (parameters_in w c) (ports_in w c)) (reset_value ResetRegister (parameters_in w c)) r) (kept-alike e))
+        ap (λ (q : Ports). cond (is_reset AsyncResetRegister (parameters_in v c) q) (reset_value AsyncResetRegister (parameters_in v c)) (kept_row v i c)) ports-alike
+        ∙ (ap (λ (p : Parameters). cond (is_reset AsyncResetRegister p (ports_in w c)) (reset_value AsyncResetRegister p) (kept_row v i c)) parameters-alike
+        ∙ ap (λ (r : Row). cond (is_reset AsyncResetRegister (parameters_in w c) (ports_in w c)) (reset_value AsyncResetRegister (parameters_in w c)) r) (kept-alike e))
 
     fn-alike : cell_fn c.kind (parameters_in v c) (ports_in v c) ≡ cell_fn c.kind (parameters_in w c) (ports_in w c)
     fn-alike =

@@ -12,7 +12,7 @@ use Rattle.design_core.specs.Asked.{output_of}
 use Rattle.design_core.specs.Shape.{CellOf, DesignOf, IsDesign}
 use Rattle.design_core.specs.Table.{role_of}
 use Rattle.design_core.specs.declared.table.Role.{Role}
-use Rattle.design_core.specs.declared.table.Role.TheVariants.{Combinational, Register, ResetRegister, Constant, Initial, Source, Statement, Unsupported}
+use Rattle.design_core.specs.declared.table.Role.TheVariants.{Combinational, Register, AsyncResetRegister, Constant, Initial, Source, Statement, Unsupported}
 use Rattle.design_core.proofs.Lists.{one_at}
 use Rattle.design_meaning.specs.Meaning.{IsCell, IsStart, Starts as StartsOf, Valuation, held_row, is_register}
 use Rattle.design_meaning.specs.States.{Kept, Signal, StateBit, state_in, state_of, state_of_role}
@@ -82,7 +82,7 @@ module _ (d : DesignOf) (shape : IsDesign d) (flat : IsFlat d) (c : Cycle) (low 
       by : (r : Role) → role_of x.kind ≡ r → row_at c (flat_map (λ (g : RegisterOf). g.q) (registers_of_role r d i x)) ≡ held_row (valued d c) i x
       by Combinational e = sym (held-as d shape flat i x at c low high Combinational e)
       by Register e = ap (row_at c) (append-nil (signal_places d (output_of x))) ∙ sym (held-as d shape flat i x at c low high Register e)
-      by ResetRegister e = ap (row_at c) (append-nil (kept_places d i (length (output_of x)))) ∙ sym (held-as d shape flat i x at c low high ResetRegister e)
+      by AsyncResetRegister e = ap (row_at c) (append-nil (kept_places d i (length (output_of x)))) ∙ sym (held-as d shape flat i x at c low high AsyncResetRegister e)
       by Constant e = ap (row_at c) (append-nil (signal_places d (output_of x))) ∙ sym (held-as d shape flat i x at c low high Constant e)
       by Initial e = ap (row_at c) (append-nil (signal_places d (output_of x))) ∙ sym (held-as d shape flat i x at c low high Initial e)
       by Source e = sym (held-as d shape flat i x at c low high Source e)
@@ -146,7 +146,7 @@ module _ (d : DesignOf) (shape : IsDesign d) (flat : IsFlat d) (c : Cycle) (low 
       by : (i : ℕ) (x : CellOf) → IsCell d i x → (n : ℕ) (b : Bool) → n < length (state_of (i, x)) → (r : Role) → role_of x.kind ≡ r → BeginsWith r d i n b → slice_get (held_row (valued d c) i x) n ≡ Some b
       by i x cell n b lt Combinational role h = absurd h
       by i x cell n b lt Register role h = s.digits i n x b cell h
-      by i x cell n b lt ResetRegister role h = s.digits i n x b cell h
+      by i x cell n b lt AsyncResetRegister role h = s.digits i n x b cell h
       by i x cell n b lt Constant role h = absurd h
       by i x cell n b lt Initial role h =
           let held : held_row (valued d c) i x ≡ true ∷ [] = s.initial i x cell role in
@@ -170,7 +170,7 @@ module _ (d : DesignOf) (shape : IsDesign d) (flat : IsFlat d) (c : Cycle) (low 
           → slice_get (held_row (valued d c) i x) k ≡ Some b
       by Combinational role t lt g = absurd (false≢true t)
       by Register role t lt g = g k b (omega (arith, lt, length-map (output_of x) (λ (a : SigBit). Signal a))) start
-      by ResetRegister role t lt g = g k b (omega (arith, lt, length-map (range_with_len 0 (length (output_of x))) (λ (n : ℕ). Kept i n), length-range 0 (length (output_of x)))) start
+      by AsyncResetRegister role t lt g = g k b (omega (arith, lt, length-map (range_with_len 0 (length (output_of x))) (λ (n : ℕ). Kept i n), length-range 0 (length (output_of x)))) start
       by Constant role t lt g = absurd (false≢true t)
       by Initial role t lt g = absurd (false≢true t)
       by Source role t lt g = absurd (false≢true t)

@@ -9,7 +9,7 @@ use Rattle.design_core.specs.Asked.{output_of}
 use Rattle.design_core.specs.Shape.{CellOf, DesignOf}
 use Rattle.design_core.specs.Table.{role_of}
 use Rattle.design_core.specs.declared.table.Role.{Role}
-use Rattle.design_core.specs.declared.table.Role.TheVariants.{Combinational, Register, ResetRegister, Constant, Initial, Source, Statement, Unsupported}
+use Rattle.design_core.specs.declared.table.Role.TheVariants.{Combinational, Register, AsyncResetRegister, Constant, Initial, Source, Statement, Unsupported}
 use Rattle.design_meaning.specs.Meaning.{IsCell, IsRegisterBit, IsStart, is_register}
 use Rattle.design_meaning.specs.States.{Kept, Signal, state_of, state_of_role}
 use Rattle.design_signals.specs.declared.sig_bit.SigBit.{SigBit}
@@ -95,7 +95,7 @@ digits-end d c digits left at within none are i cell register =
         × ((k : ℕ) (x : Bool) → (slice_get digits k ≡ Some (Some x)) ↔ IsStart d i k x → (slice_get digits k ≡ Some (Some x)) ↔ BeginsWith r d i k x)
     by Combinational t e = absurd (false≢true t)
     by Register t e = (e ∙ sym (length-map (output_of c) (λ (b : SigBit). Signal b)), λ k x h. h)
-    by ResetRegister t e = (e ∙ (sym (length-range 0 (length (output_of c))) ∙ sym (length-map (range_with_len 0 (length (output_of c))) (λ (k : ℕ). Kept i k))), λ k x h. h)
+    by AsyncResetRegister t e = (e ∙ (sym (length-range 0 (length (output_of c))) ∙ sym (length-map (range_with_len 0 (length (output_of c))) (λ (k : ℕ). Kept i k))), λ k x h. h)
     by Constant t e = absurd (false≢true t)
     by Initial t e = absurd (false≢true t)
     by Source t e = absurd (false≢true t)

@@ -20,7 +20,7 @@ use Rattle.design_core.specs.declared.table.PortLine.{PortLine}
 use Rattle.design_core.specs.declared.table.PortWidth.{PortWidth}
 use Rattle.design_core.specs.declared.table.PortWidth.TheVariants.{One, Of, Product, Choice, Sum}
 use Rattle.design_core.specs.declared.table.Role.{Role}
-use Rattle.design_core.specs.declared.table.Role.TheVariants.{Combinational, Register, ResetRegister, Constant, Initial, Source, Statement, Unsupported}
+use Rattle.design_core.specs.declared.table.Role.TheVariants.{Combinational, Register, AsyncResetRegister, Constant, Initial, Source, Statement, Unsupported}
 use Rattle.design_core.proofs.Lists.{Contains-from_place, place-from_Contains}
 use Rattle.design_states.proofs.Giving.{from-lists, in-lists}
 use Rattle.design_meaning.specs.Meaning.{Follows as FollowsOf, IsCell, held_row, is_register, kept_row, parameters_in, ports_in, row_in, row_of_role}
@@ -161,7 +161,7 @@ module _ (d : DesignOf) (shape : IsDesign d) (flat : IsFlat d) (i : ℕ) (x : Ce
     pub held-read : (r : Role) → row_of_role r (row_in (valued d c) (output_of x)) (kept_row (valued d c) i x) ≡ row_of_role r (row_at c (signal_places d (output_of x))) (row_at c (kept_places d i (length (output_of x))))
     held-read Combinational = refl
     held-read Register = rows (output_of x)
-    held-read ResetRegister = kept-read d c i (length (output_of x))
+    held-read AsyncResetRegister = kept-read d c i (length (output_of x))
     held-read Constant = rows (output_of x)
     held-read Initial = rows (output_of x)
     held-read Source = refl
@@ -194,9 +194,9 @@ module _ (d : DesignOf) (shape : IsDesign d) (flat : IsFlat d) (i : ℕ) (x : Ce
     registers-hold Register e g h =
         of-one (table_register d x (signal_places d (output_of x))) g h
         (sym (held-as Register e), table-next (ap is_register e) (signal_places d (output_of x)) ∙ ap (next_fn x.kind (parameters_in (valued d c) x) (ports_in (valued d c) x)) (sym (held-as Register e)))
-    registers-hold ResetRegister e g h =
+    registers-hold AsyncResetRegister e g h =
         of-one (table_register d x (kept_places d i (length (output_of x)))) g h
-        (sym (held-as ResetRegister e), table-next (ap is_register e) (kept_places d i (length (output_of x))) ∙ ap (next_fn x.kind (parameters_in (valued d c) x) (ports_in (valued d c) x)) (sym (held-as ResetRegister e)))
+        (sym (held-as AsyncResetRegister e), table-next (ap is_register e) (kept_places d i (length (output_of x))) ∙ ap (next_fn x.kind (parameters_in (valued d c) x) (ports_in (valued d c) x)) (sym (held-as AsyncResetRegister e)))
     registers-hold Constant e g h =
         of-one (plain_register d (signal_places d (output_of x)) (signal_places d (output_of x))) g h
         (sym (held-as Constant e), plain-next (signal_places d (output_of x)) (signal_places d (output_of x)) ∙ (sym (held-as Constant e) ∙ sym (next-as Constant e (held_row (valued d c) i x))))
@@ -261,7 +261,7 @@ module _ (d : DesignOf) (shape : IsDesign d) (flat : IsFlat d) (registers : List
         → held_row (valued d e) i x ≡ next_fn x.kind (parameters_in (valued d c) x) (ports_in (valued d c) x) (held_row (valued d c) i x)
     by-role i x at Combinational role of = held-as d shape flat i x at e low' high' Combinational role ∙ sym (next-as d shape flat i x at c low high Combinational role (held_row (valued d c) i x))
     by-role i x at Register role of = of (table_register d x (signal_places d (output_of x))) (0, omega arith, refl)
-    by-role i x at ResetRegister role of = of (table_register d x (kept_places d i (length (output_of x)))) (0, omega arith, refl)
+    by-role i x at AsyncResetRegister role of = of (table_register d x (kept_places d i (length (output_of x)))) (0, omega arith, refl)
     by-role i x at Constant role of = of (plain_register d (signal_places d (output_of x)) (signal_places d (output_of x))) (0, omega arith, refl)
     by-role i x at Initial role of = of (plain_register d (signal_places d (output_of x)) (zero_place d ∷ [])) (0, omega arith, refl)
     by-role i x at Source role of = held-as d shape flat i x at e low' high' Source role ∙ sym (next-as d shape flat i x at c low high Source role (held_row (valued d c) i x))

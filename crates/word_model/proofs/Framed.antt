@@ -16,7 +16,7 @@ use Rattle.design_core.specs.Table.{role_of}
 use Rattle.design_core.specs.declared.names.ParameterName.TheVariants.{ArstPolarity, ArstValue}
 use Rattle.design_core.specs.declared.names.PortName.TheVariants.{Arst}
 use Rattle.design_core.specs.declared.table.Role.{Role}
-use Rattle.design_core.specs.declared.table.Role.TheVariants.{Combinational, Register, ResetRegister, Constant, Initial, Source, Statement, Unsupported}
+use Rattle.design_core.specs.declared.table.Role.TheVariants.{Combinational, Register, AsyncResetRegister, Constant, Initial, Source, Statement, Unsupported}
 use Rattle.design_core.proofs.Lists.{one_at, place-from_Contains}
 use Rattle.design_graph.specs.Order.{IsDriver, IsOrder, is_in_cycle}
 use Rattle.design_graph.specs.declared.driver.Driver.{Driver}
@@ -111,9 +111,9 @@ module _ (d : DesignOf) (shape : IsDesign d) (flat : IsFlat d) (order : List Dri
         let given : row_at c (signal_places d (output_of x)) ≡ row_of_node c (cell_node d x) = subst (λ (n : NodeOf). row_at c n.y ≡ row_of_node c n) is (f.nodes r.0 r.1 r.2) in
         rows (output_of x) ∙ (given ∙ cell-gives d shape flat i x at role c low high)
 
-    resets-to : (i : ℕ) (x : CellOf) → IsCell d i x → role_of x.kind ≡ ResetRegister → row_in (valued d c) (output_of x) ≡ shown_row (valued d c) i x
+    resets-to : (i : ℕ) (x : CellOf) → IsCell d i x → role_of x.kind ≡ AsyncResetRegister → row_in (valued d c) (output_of x) ≡ shown_row (valued d c) i x
     resets-to i x at role =
-        let r = cell-node-of i x at (in-cycle x ResetRegister role refl) in
+        let r = cell-node-of i x at (in-cycle x AsyncResetRegister role refl) in
         let is : r.1 ≡ reset_node d i x = subst (λ (z : Role). IsNodeOfRole z d i x r.1) role r.3 in
         let given : row_at c (signal_places d (output_of x)) ≡ row_of_node c (reset_node d i x) = subst (λ (n : NodeOf). row_at c n.y ≡ row_of_node c n) is (f.nodes r.0 r.1 r.2) in
         rows (output_of x) ∙ (given ∙ reset-gives i x at)
@@ -148,7 +148,7 @@ module _ (d : DesignOf) (shape : IsDesign d) (flat : IsFlat d) (order : List Dri
     by-role i x y at Combinational e h =
         subst (λ (n : NodeOf). row_at c n.y ≡ row_of_node c n) (sym h) (sym (rows (output_of x)) ∙ (f.cells i x at e ∙ sym (cell-gives d shape flat i x at e c low high)))
     by-role i x y at Register e h = absurd h
-    by-role i x y at ResetRegister e h =
+    by-role i x y at AsyncResetRegister e h =
         subst (λ (n : NodeOf). row_at c n.y ≡ row_of_node c n) (sym h) (sym (rows (output_of x)) ∙ (f.resets i x at e ∙ sym (reset-gives i x at)))
     by-role i x y at Constant e h = absurd h
     by-role i x y at Initial e h = absurd h

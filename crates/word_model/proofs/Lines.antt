@@ -15,7 +15,7 @@ use Rattle.design_core.specs.declared.table.PortLine.{PortLine}
 use Rattle.design_core.specs.declared.table.PortWidth.{PortWidth}
 use Rattle.design_core.specs.declared.table.PortWidth.TheVariants.{One, Of, Product, Choice, Sum}
 use Rattle.design_core.specs.declared.table.Role.{Role}
-use Rattle.design_core.specs.declared.table.Role.TheVariants.{Combinational, Register, ResetRegister, Constant, Initial, Source, Statement, Unsupported}
+use Rattle.design_core.specs.declared.table.Role.TheVariants.{Combinational, Register, AsyncResetRegister, Constant, Initial, Source, Statement, Unsupported}
 use Rattle.design_meaning.specs.Meaning.{is_register}
 use Rattle.word_model.specs.Kinds.{asks, is_reset_value}
 use Rattle.word_model.proofs.Cells.{kept_next}
@@ -189,7 +189,7 @@ reset-role InitState h = absurd cc
 reset-role (LeftOutCell k) h = absurd cc
 reset-role Unknown h = absurd cc
 
-pub reset-at-once-role : (k : Kind) → asks k Arst ≡ true → role_of k ≡ ResetRegister
+pub reset-at-once-role : (k : Kind) → asks k Arst ≡ true → role_of k ≡ AsyncResetRegister
 reset-at-once-role Adff h = refl
 reset-at-once-role Adffe h = refl
 reset-at-once-role Sdff h = absurd cc
@@ -223,7 +223,7 @@ reset-at-once-role Unknown h = absurd cc
 abbrev pub other_next : Role → Row → Row → Row
 other_next Combinational q register = []
 other_next Register q register = register
-other_next ResetRegister q register = register
+other_next AsyncResetRegister q register = register
 other_next Constant q register = q
 other_next Initial q register = false ∷ []
 other_next Source q register = []

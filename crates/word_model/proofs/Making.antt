@@ -11,7 +11,7 @@ use Rattle.design_core.specs.Shape.{CellOf, ConnectOf, DesignOf}
 use Rattle.design_core.specs.declared.names.ParameterName.TheVariants.{ArstPolarity, ArstValue}
 use Rattle.design_core.specs.declared.names.PortName.TheVariants.{Arst}
 use Rattle.design_core.specs.declared.table.Role.{Role}
-use Rattle.design_core.specs.declared.table.Role.TheVariants.{Combinational, Register, ResetRegister, Constant, Initial, Source, Statement, Unsupported}
+use Rattle.design_core.specs.declared.table.Role.TheVariants.{Combinational, Register, AsyncResetRegister, Constant, Initial, Source, Statement, Unsupported}
 use Rattle.design_graph.specs.Order.{is_in_cycle}
 use Rattle.std.proofs.lemmas.Bool.{false≢true}
 use Rattle.model_core.specs.Shape.{NodeOf}
@@ -54,10 +54,10 @@ module _ (d : DesignOf) (i : ℕ) (x : CellOf) (first : ℕ) (e : first ≡ kept
         (ea ∙ (kept-made count wide ∙ ap (λ (t : Bool). cond t (parameter_places d x ArstValue) (kept_places d i (length (output_of x)))) (sym f))) es ey
 
 -- of the two roles within a cycle
-pub combinational : (r : Role) → is_in_cycle r ≡ true → (r ≡ ResetRegister → ⊥) → r ≡ Combinational
+pub combinational : (r : Role) → is_in_cycle r ≡ true → (r ≡ AsyncResetRegister → ⊥) → r ≡ Combinational
 combinational Combinational h other = refl
 combinational Register h other = absurd (false≢true h)
-combinational ResetRegister h other = absurd (other refl)
+combinational AsyncResetRegister h other = absurd (other refl)
 combinational Constant h other = absurd (false≢true h)
 combinational Initial h other = absurd (false≢true h)
 combinational Source h other = absurd (false≢true h)

@@ -16,7 +16,7 @@ use Rattle.design_core.specs.Shape.{CellOf, DesignOf, IsDesign}
 use Rattle.design_core.specs.Table.{output_port, role_of}
 use Rattle.design_core.specs.declared.names.PortName.TheVariants.{Y}
 use Rattle.design_core.specs.declared.table.Role.{Role}
-use Rattle.design_core.specs.declared.table.Role.TheVariants.{Combinational, Register, ResetRegister, Constant, Initial, Source, Statement, Unsupported}
+use Rattle.design_core.specs.declared.table.Role.TheVariants.{Combinational, Register, AsyncResetRegister, Constant, Initial, Source, Statement, Unsupported}
 use Rattle.design_graph.specs.Order.{IsOrder}
 use Rattle.design_graph.specs.declared.driver.Driver.{Driver}
 use Rattle.design_meaning.specs.Meaning.{Assumed as AssumedOf, Broken as BrokenOf, IsCell, Reached as ReachedOf, Starts as StartsOf, asserts, assumes, covers, is_assert, is_assume, is_cover, is_enabled, says}
@@ -62,7 +62,7 @@ cell-states d (i, x) = by (role_of x.kind)
         ≡ map (state_place d) (state_of_role r (map (λ b. Signal b) (output_of x)) (map (λ k. Kept i k) (range_with_len 0 (length (output_of x)))))
     by Combinational = refl
     by Register = append-nil (signal_places d (output_of x)) ∙ signals d (output_of x)
-    by ResetRegister = append-nil (kept_places d i (length (output_of x))) ∙ kepts d i (range_with_len 0 (length (output_of x)))
+    by AsyncResetRegister = append-nil (kept_places d i (length (output_of x))) ∙ kepts d i (range_with_len 0 (length (output_of x)))
     by Constant = append-nil (signal_places d (output_of x)) ∙ signals d (output_of x)
     by Initial = append-nil (signal_places d (output_of x)) ∙ signals d (output_of x)
     by Source = refl

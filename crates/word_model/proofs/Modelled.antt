@@ -13,7 +13,7 @@ use Rattle.design_core.specs.Places.{offset, place_of, places}
 use Rattle.design_core.specs.Shape.{CellOf, ConnectOf, DesignOf, IsDeclared, IsDesign, WireOf, wire_bits}
 use Rattle.design_core.specs.Table.{role_of}
 use Rattle.design_core.specs.declared.table.Role.{Role}
-use Rattle.design_core.specs.declared.table.Role.TheVariants.{Combinational, Register, ResetRegister, Constant, Initial, Source, Statement, Unsupported}
+use Rattle.design_core.specs.declared.table.Role.TheVariants.{Combinational, Register, AsyncResetRegister, Constant, Initial, Source, Statement, Unsupported}
 use Rattle.design_core.proofs.Lists.{Contains-from_place, one_at, place-from_Contains}
 use Rattle.design_core.proofs.Places.{place_of-same, place_of-wire, place_of-within, bit_number-most}
 use Rattle.design_graph.specs.Order.{Drives, DrivesFrom, IsDriver, IsOrder, is_in_cycle}
@@ -182,7 +182,7 @@ module _ (d : DesignOf) (shape : IsDesign d) (flat : IsFlat d) (order : List Dri
       by : (r : Role) → role_of x.kind ≡ r → is_given r ≡ true → Contains (sources m ++ given m.nodes) (place_of d b)
       by Combinational e t = node Combinational e refl (λ y h. ap (λ (z : NodeOf). z.y) h)
       by Register e t = held (whole Register e (Contains-append_left (signal_places d (output_of x)) [] (place_of d b) (place-in (output_of x) b has)))
-      by ResetRegister e t = node ResetRegister e refl (λ y h. ap (λ (z : NodeOf). z.y) h)
+      by AsyncResetRegister e t = node AsyncResetRegister e refl (λ y h. ap (λ (z : NodeOf). z.y) h)
       by Constant e t = held (whole Constant e (Contains-append_left (signal_places d (output_of x)) [] (place_of d b) (place-in (output_of x) b has)))
       by Initial e t = held (whole Initial e (Contains-append_left (signal_places d (output_of x)) [] (place_of d b) (place-in (output_of x) b has)))
       by Source e t = absurd (false≢true t)
@@ -237,7 +237,7 @@ module _ (d : DesignOf) (shape : IsDesign d) (flat : IsFlat d) (order : List Dri
       by : (r : Role) → role_of x.kind ≡ r → k < kept_by_role r (length (output_of x)) → Contains (sources m) (kept_place d i k)
       by Combinational e h = none Combinational h
       by Register e h = none Register h
-      by ResetRegister e h =
+      by AsyncResetRegister e h =
           let has : Contains (kept_places d i (length (output_of x)) ++ []) (kept_place d i k) =
           Contains-append_left (kept_places d i (length (output_of x))) [] (kept_place d i k)
           (Contains-from_place (kept_places d i (length (output_of x))) k (kept_place d i k)

@@ -21,7 +21,7 @@ use Rattle.design_core.specs.declared.names.ParameterName.TheVariants.{ArstPolar
 use Rattle.design_core.specs.declared.names.PortName.{PortName}
 use Rattle.design_core.specs.declared.names.PortName.TheVariants.{A, Arst, D, En, Srst, Y}
 use Rattle.design_core.specs.declared.table.Role.{Role}
-use Rattle.design_core.specs.declared.table.Role.TheVariants.{Combinational, Register, ResetRegister, Constant, Initial, Source, Statement, Unsupported}
+use Rattle.design_core.specs.declared.table.Role.TheVariants.{Combinational, Register, AsyncResetRegister, Constant, Initial, Source, Statement, Unsupported}
 use Rattle.design_core.proofs.Lists.{Contains-from_place, place-from_Contains}
 use Rattle.design_core.proofs.Places.{bit_number-most, place_of-within}
 use Rattle.design_graph.specs.Order.{IsOrder}
@@ -244,7 +244,7 @@ module _ (d : DesignOf) (shape : IsDesign d) (flat : IsFlat d) (size : ℕ) (who
     register-served Register e g h =
         subst (λ (z : RegisterOf). IsRegister size z) (only-one (table_register d x (signal_places d (output_of x))) g h)
         (table-served (ap is_register e) (signal_places d (output_of x)) (length-map (output_of x) (place_of d)))
-    register-served ResetRegister e g h =
+    register-served AsyncResetRegister e g h =
         subst (λ (z : RegisterOf). IsRegister size z) (only-one (table_register d x (kept_places d i (length (output_of x)))) g h)
         (table-served (ap is_register e) (kept_places d i (length (output_of x)))
         (length-map (range_with_len 0 (length (output_of x))) (kept_place d i) ∙ length-range 0 (length (output_of x))))
@@ -262,7 +262,7 @@ module _ (d : DesignOf) (shape : IsDesign d) (flat : IsFlat d) (size : ℕ) (who
     register-served Unsupported e g h = let lt = h.1 in absurd (omega (arith, lt))
 
     -- a reset's node has one width
-    reset-node : role_of x.kind ≡ ResetRegister → IsNode (reset_node d i x)
+    reset-node : role_of x.kind ≡ AsyncResetRegister → IsNode (reset_node d i x)
     reset-node e = by (flag x ArstPolarity)
       where
         kept-long : length (kept_places d i (length (output_of x))) ≡ length (output_of x)
@@ -299,7 +299,7 @@ module _ (d : DesignOf) (shape : IsDesign d) (flat : IsFlat d) (order : List Dri
       by : (role : Role) → role_of is.0.kind ≡ role → IsNodeOfRole role d i is.0 y → IsNode y
       by Combinational e n = subst (λ (z : NodeOf). IsNode z) (sym n) (cell-node-sized d shape flat i is.0 is.1 e)
       by Register e n = absurd n
-      by ResetRegister e n = subst (λ (z : NodeOf). IsNode z) (sym n) (reset-node d shape flat m.size built.size i is.0 is.1 e)
+      by AsyncResetRegister e n = subst (λ (z : NodeOf). IsNode z) (sym n) (reset-node d shape flat m.size built.size i is.0 is.1 e)
       by Constant e n = absurd n
       by Initial e n = absurd n
       by Source e n = absurd n

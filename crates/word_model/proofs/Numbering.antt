@@ -10,7 +10,7 @@ use Rattle.design_core.specs.Shape.{CellOf, DesignOf}
 use Rattle.design_core.proofs.Lists.{one_at}
 use Rattle.design_core.specs.Table.{role_of}
 use Rattle.design_core.specs.declared.table.Role.{Role}
-use Rattle.design_core.specs.declared.table.Role.TheVariants.{Combinational, Register, ResetRegister, Constant, Initial, Source, Statement, Unsupported}
+use Rattle.design_core.specs.declared.table.Role.TheVariants.{Combinational, Register, AsyncResetRegister, Constant, Initial, Source, Statement, Unsupported}
 use Rattle.design_meaning.specs.Meaning.{IsCell}
 use Rattle.design_meaning.specs.States.{Kept, Signal, StateBit, state_bits, state_of, state_of_role}
 use Rattle.word_model.proofs.Growing.{cells-next}
@@ -23,7 +23,7 @@ use Rattle.word_model.specs.declared.numbers.Group.TheVariants.{Registers, Const
 one-group : (r : Role) (bits : List StateBit) → length (cond (has Registers r) bits []) + (length (cond (has Constants r) bits []) + length (cond (has Initials r) bits [])) ≤ length bits
 one-group Combinational bits = omega arith
 one-group Register bits = omega arith
-one-group ResetRegister bits = omega arith
+one-group AsyncResetRegister bits = omega arith
 one-group Constant bits = omega arith
 one-group Initial bits = omega arith
 one-group Source bits = omega arith
@@ -70,13 +70,13 @@ module _ (d : DesignOf) (i : ℕ) (x : CellOf) where
   abbrev pub states : Role → List ℕ
   states r = map (state_place d) (state_of_role r (map (λ b. Signal b) (output_of x)) (map (λ k. Kept i k) (range_with_len 0 (length (output_of x)))))
 
-  -- the places of the state bits of a cell, by its role: its output's, those of the kept row, or none
+  -- the places of the state bits of a cell, by its role: its output's, those of the stored row, or none
   pub signal-states : (r : Role) → role_of x.kind ≡ r → (r ≡ Register) ⊎ ((r ≡ Constant) ⊎ (r ≡ Initial)) → map (state_place d) (state_of (i, x)) ≡ signal_places d (output_of x)
   signal-states r e (inl f) = ap states (e ∙ f) ∙ sym (signals d (output_of x))
   signal-states r e (inr (inl f)) = ap states (e ∙ f) ∙ sym (signals d (output_of x))
   signal-states r e (inr (inr f)) = ap states (e ∙ f) ∙ sym (signals d (output_of x))
 
-  pub kept-states : role_of x.kind ≡ ResetRegister → map (state_place d) (state_of (i, x)) ≡ kept_places d i (length (output_of x))
+  pub kept-states : role_of x.kind ≡ AsyncResetRegister → map (state_place d) (state_of (i, x)) ≡ kept_places d i (length (output_of x))
   kept-states e = ap states e ∙ sym (kepts d i (range_with_len 0 (length (output_of x))))
 
   pub no-states : (r : Role) → role_of x.kind ≡ r → (r ≡ Combinational) ⊎ ((r ≡ Source) ⊎ ((r ≡ Statement) ⊎ (r ≡ Unsupported))) → map (state_place d) (state_of (i, x)) ≡ []

@@ -11,7 +11,7 @@ use Rattle.design_core.specs.Places.{offset, place_of, places}
 use Rattle.design_core.specs.Shape.{CellOf, ConnectOf, DesignOf, IsDeclared, IsDesign, WireOf, wire_bits}
 use Rattle.design_core.specs.Table.{role_of}
 use Rattle.design_core.specs.declared.table.Role.{Role}
-use Rattle.design_core.specs.declared.table.Role.TheVariants.{Combinational, Register, ResetRegister, Constant, Initial, Source, Statement, Unsupported}
+use Rattle.design_core.specs.declared.table.Role.TheVariants.{Combinational, Register, AsyncResetRegister, Constant, Initial, Source, Statement, Unsupported}
 use Rattle.design_core.proofs.Lists.{Contains-from_place, one_at, place-from_Contains}
 use Rattle.design_core.proofs.Places.{place_of-same, place_of-wire, place_of-within, sum_by-before, sum_by-within}
 use Rattle.design_graph.specs.Items.{DrivesBit}
@@ -70,19 +70,19 @@ module _ (d : DesignOf) (shape : IsDesign d) (flat : IsFlat d) where
       by : (r : Role) → Distinct (flat_map (λ g. g.q) (registers_of_role r d i x))
       by Combinational = distinct-none
       by Register = alone (signal_places d (output_of x)) (output-places i x at)
-      by ResetRegister = alone (kept_places d i (length (output_of x))) (kept-distinct i (length (output_of x)))
+      by AsyncResetRegister = alone (kept_places d i (length (output_of x))) (kept-distinct i (length (output_of x)))
       by Constant = alone (signal_places d (output_of x)) (output-places i x at)
       by Initial = alone (signal_places d (output_of x)) (output-places i x at)
       by Source = distinct-none
       by Statement = distinct-none
       by Unsupported = distinct-none
 
-  pub kept-end : (i k : ℕ) (x : CellOf) → IsCell d i x → role_of x.kind ≡ ResetRegister → k < length (output_of x) → kept_place d i k < places d + kept_bits d
+  pub kept-end : (i k : ℕ) (x : CellOf) → IsCell d i x → role_of x.kind ≡ AsyncResetRegister → k < length (output_of x) → kept_place d i k < places d + kept_bits d
   kept-end i k x at role lt =
       let width : kept_width x ≡ length (output_of x) = ap (λ (r : Role). kept_by_role r (length (output_of x))) role in
       omega (arith, sum_by-within kept_width d.cells i x at, width, lt)
 
-  kept-apart : (i j k l : ℕ) (x : CellOf) → IsCell d i x → role_of x.kind ≡ ResetRegister → k < length (output_of x) → kept_place d i k ≡ kept_place d j l → i < j → ⊥
+  kept-apart : (i j k l : ℕ) (x : CellOf) → IsCell d i x → role_of x.kind ≡ AsyncResetRegister → k < length (output_of x) → kept_place d i k ≡ kept_place d j l → i < j → ⊥
   kept-apart i j k l x at role lt e less =
       let width : kept_width x ≡ length (output_of x) = ap (λ (r : Role). kept_by_role r (length (output_of x))) role in
       absurd (omega (arith, sum_by-before kept_width d.cells i j x less at, width, lt, e))
@@ -156,7 +156,7 @@ module _ (d : DesignOf) (shape : IsDesign d) (flat : IsFlat d) where
       in-cycle-given : (r : Role) → is_in_cycle r ≡ true → is_given r ≡ true
       in-cycle-given Combinational e = refl
       in-cycle-given Register e = absurd (false≢true e)
-      in-cycle-given ResetRegister e = refl
+      in-cycle-given AsyncResetRegister e = refl
       in-cycle-given Constant e = absurd (false≢true e)
       in-cycle-given Initial e = absurd (false≢true e)
       in-cycle-given Source e = absurd (false≢true e)
@@ -178,7 +178,7 @@ module _ (d : DesignOf) (shape : IsDesign d) (flat : IsFlat d) where
         of-role : (i : ℕ) (x : CellOf) → IsCell d i x → (role : Role) → IsNodeOfRole role d i x y → Distinct y.y
         of-role i x cell Combinational is = subst (λ (z : NodeOf). Distinct z.y) (sym is) (output-places i x cell)
         of-role i x cell Register is = absurd is
-        of-role i x cell ResetRegister is = subst (λ (z : NodeOf). Distinct z.y) (sym is) (output-places i x cell)
+        of-role i x cell AsyncResetRegister is = subst (λ (z : NodeOf). Distinct z.y) (sym is) (output-places i x cell)
         of-role i x cell Constant is = absurd is
         of-role i x cell Initial is = absurd is
         of-role i x cell Source is = absurd is

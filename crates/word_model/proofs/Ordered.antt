@@ -21,7 +21,7 @@ use Rattle.design_core.specs.declared.names.PortName.{PortName}
 use Rattle.design_core.specs.declared.names.PortName.TheVariants.{A, B, S, Arst}
 use Rattle.design_core.specs.declared.parts.Port.{Port}
 use Rattle.design_core.specs.declared.table.Role.{Role}
-use Rattle.design_core.specs.declared.table.Role.TheVariants.{Combinational, Register, ResetRegister, Constant, Initial, Source, Statement, Unsupported}
+use Rattle.design_core.specs.declared.table.Role.TheVariants.{Combinational, Register, AsyncResetRegister, Constant, Initial, Source, Statement, Unsupported}
 use Rattle.design_core.proofs.Lists.{Contains-from_place, one_at, place-from_Contains}
 use Rattle.design_core.proofs.Places.{bit_number-most, place_of-same, place_of-within}
 use Rattle.design_graph.specs.Order.{Drives, DrivesFrom, IsOrder}
@@ -163,7 +163,7 @@ module _ (d : DesignOf) (shape : IsDesign d) (flat : IsFlat d) (i : ℕ) (x : Ce
   reset-above p h =
       value-above (digits_at x.parameters ArstValue) (λ xs e. All-digits_at (IsNumbered d.free) x.parameters ArstValue (cell-declared d shape i x at).parameters xs e) p h
 
-  module _ (role : role_of x.kind ≡ ResetRegister) where
+  module _ (role : role_of x.kind ≡ AsyncResetRegister) where
     kept-above : (p : ℕ) → Contains (kept_places d i (length (output_of x))) p → (wire_bits d ≤ p) × (p < places d + kept_bits d)
     kept-above p h =
         let m = map-member (kept_place d i) (range_with_len 0 (length (output_of x))) p h in
@@ -179,14 +179,14 @@ module _ (d : DesignOf) (shape : IsDesign d) (flat : IsFlat d) (i : ℕ) (x : Ce
     other-above true p h = reset-above p h
     other-above false p h = kept-above p h
 
-  reset-read : role_of x.kind ≡ ResetRegister → reads_port x.kind Arst ≡ true
+  reset-read : role_of x.kind ≡ AsyncResetRegister → reads_port x.kind Arst ≡ true
   reset-read e = by (asks x.kind Arst) (ap (λ (r : Role). list_any (λ p. is_port p Arst) (ports_in_cycle r (map (λ l. l.name) (ports_of x.kind)))) e)
     where
       by : (t : Bool) → list_any (λ p. is_port p Arst) (ports_read x.kind) ≡ true → (not t || list_any (λ p. is_port p Arst) (ports_read x.kind)) ≡ true
       by true h = h
       by false h = refl
 
-  reset-reads : role_of x.kind ≡ ResetRegister → (p : ℕ) → Contains (reads (reset_node d i x)) p → IsReadPlace (Cell i) p
+  reset-reads : role_of x.kind ≡ AsyncResetRegister → (p : ℕ) → Contains (reads (reset_node d i x)) p → IsReadPlace (Cell i) p
   reset-reads role p h =
       elim (Contains-append_cases (cond (flag x ArstPolarity) (kept_places d i (length (output_of x))) (parameter_places d x ArstValue)) (cond (flag x ArstPolarity) (parameter_places d x ArstValue) (kept_places d i (length (output_of x))) ++ signal_places d (signal_at x.ports Arst)) p h)
       as (λ _. IsReadPlace (Cell i) p) [
@@ -213,7 +213,7 @@ module _ (d : DesignOf) (shape : IsDesign d) (flat : IsFlat d) (order : List Dri
       by : (role : Role) → role_of is.0.kind ≡ role → IsNodeOfRole role d i is.0 y → IsRead d (Cell i) p
       by Combinational e n = cell-reads d shape flat i is.0 is.1 e p (subst (λ (z : NodeOf). Contains (reads z) p) n h)
       by Register e n = absurd n
-      by ResetRegister e n = reset-reads d shape flat i is.0 is.1 e p (subst (λ (z : NodeOf). Contains (reads z) p) n h)
+      by AsyncResetRegister e n = reset-reads d shape flat i is.0 is.1 e p (subst (λ (z : NodeOf). Contains (reads z) p) n h)
       by Constant e n = absurd n
       by Initial e n = absurd n
       by Source e n = absurd n

@@ -14,7 +14,7 @@ use Rattle.design_core.specs.Places.{offset, place_of, places}
 use Rattle.design_core.specs.Shape.{CellOf, ConnectOf, DesignOf, IsDeclared, IsDesign, WireOf, wire_bits}
 use Rattle.design_core.specs.Table.{role_of}
 use Rattle.design_core.specs.declared.table.Role.{Role}
-use Rattle.design_core.specs.declared.table.Role.TheVariants.{Combinational, Register, ResetRegister, Constant, Initial, Source, Statement, Unsupported}
+use Rattle.design_core.specs.declared.table.Role.TheVariants.{Combinational, Register, AsyncResetRegister, Constant, Initial, Source, Statement, Unsupported}
 use Rattle.design_core.proofs.Lists.{Contains-from_place, one_at, place-from_Contains}
 use Rattle.design_core.proofs.Places.{place_of-same, place_of-wire, place_of-within}
 use Rattle.design_graph.specs.Items.{IsDrivenOnce}
@@ -59,7 +59,7 @@ in-range n k h = let at = place-from_Contains (range_with_len 0 n) k h in let r 
 abbrev pub IsStatePlace : DesignOf → ℕ → CellOf → ℕ → Type 0
 IsStatePlace d i x p =
     ((a : SigBit) × Contains (output_of x) a × (p ≡ place_of d a) × (is_in_cycle (role_of x.kind) ≡ false) × (is_given (role_of x.kind) ≡ true))
-    ⊎ ((k : ℕ) × (role_of x.kind ≡ ResetRegister) × (k < length (output_of x)) × (p ≡ kept_place d i k))
+    ⊎ ((k : ℕ) × (role_of x.kind ≡ AsyncResetRegister) × (k < length (output_of x)) × (p ≡ kept_place d i k))
 
 pub state-place : (d : DesignOf) (i : ℕ) (x : CellOf) (p : ℕ) → Contains (cell-places d (i, x)) p → IsStatePlace d i x p
 state-place d i x p h = by (role_of x.kind) refl h
@@ -75,7 +75,7 @@ state-place d i x p h = by (role_of x.kind) refl h
     by : (r : Role) → role_of x.kind ≡ r → Contains (flat_map (λ g. g.q) (registers_of_role r d i x)) p → IsStatePlace d i x p
     by Combinational role c = absurd (nothing c)
     by Register role c = signal Register role refl refl c
-    by ResetRegister role c =
+    by AsyncResetRegister role c =
         let m = map-member (kept_place d i) (range_with_len 0 (length (output_of x))) p (subst (λ (l : List ℕ). Contains l p) (append-nil (kept_places d i (length (output_of x)))) c) in
         inr (m.0, role, in-range (length (output_of x)) m.0 m.1, sym m.2)
     by Constant role c = signal Constant role refl refl c
@@ -163,7 +163,7 @@ module _ (d : DesignOf) (shape : IsDesign d) (flat : IsFlat d) where
             let c = map-member (place_of d) (output_of x) p (subst (λ (z : NodeOf). Contains z.y p) is h) in
             (c.0, (x, cell, c.1), sym c.2)
         of-role i x cell Register is = absurd is
-        of-role i x cell ResetRegister is =
+        of-role i x cell AsyncResetRegister is =
             let c = map-member (place_of d) (output_of x) p (subst (λ (z : NodeOf). Contains z.y p) is h) in
             (c.0, (x, cell, c.1), sym c.2)
         of-role i x cell Constant is = absurd is

@@ -8,7 +8,7 @@ use Rattle.design_core.proofs.Lists.{one_at}
 use Rattle.design_core.specs.Shape.{CellOf, DesignOf}
 use Rattle.design_core.specs.Table.{role_of}
 use Rattle.design_core.specs.declared.table.Role.{Role}
-use Rattle.design_core.specs.declared.table.Role.TheVariants.{Combinational, Register, ResetRegister, Constant, Initial, Source, Statement, Unsupported}
+use Rattle.design_core.specs.declared.table.Role.TheVariants.{Combinational, Register, AsyncResetRegister, Constant, Initial, Source, Statement, Unsupported}
 use Rattle.design_meaning.specs.Meaning.{IsCell}
 use Rattle.design_meaning.specs.States.{Kept, Signal, state_of, state_of_role}
 use Rattle.model_core.specs.Shape.{ModelOf, RegisterOf}

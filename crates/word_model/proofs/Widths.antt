@@ -20,7 +20,7 @@ use Rattle.design_core.specs.declared.parts.Parameter.{Parameter}
 use Rattle.design_core.specs.declared.table.ParameterForm.{ParameterForm}
 use Rattle.design_core.specs.declared.table.ParameterForm.TheVariants.{Flag}
 use Rattle.design_core.specs.declared.table.Role.{Role}
-use Rattle.design_core.specs.declared.table.Role.TheVariants.{Combinational, Register, ResetRegister, Constant, Initial, Source, Statement, Unsupported}
+use Rattle.design_core.specs.declared.table.Role.TheVariants.{Combinational, Register, AsyncResetRegister, Constant, Initial, Source, Statement, Unsupported}
 use Rattle.design_meaning.specs.Meaning.{IsCell, is_register}
 use Rattle.word_model.specs.Kinds.{asks}
 use Rattle.word_model.specs.Layout.{parameter_places, signal_places}
@@ -176,7 +176,7 @@ module _ (d : DesignOf) (shape : IsDesign d) (flat : IsFlat d) (i : ℕ) (c : Ce
   output-few : (r : Role) → role_of c.kind ≡ r → length (signal_of c (output_port r)) ≤ 4096
   output-few Combinational e = few Y
   output-few Register e = few Q
-  output-few ResetRegister e = few Q
+  output-few AsyncResetRegister e = few Q
   output-few Constant e = few Y
   output-few Initial e = few Y
   output-few Source e = few Y
@@ -205,7 +205,7 @@ module _ (d : DesignOf) (shape : IsDesign d) (flat : IsFlat d) (i : ℕ) (c : Ce
     by-role : (r : Role) → is_register r ≡ true → length (signal_at c.ports Q) ≡ number_at c.parameters Width → length (signal_of c (output_port r)) ≡ number_at c.parameters Width
     by-role Combinational t h = absurd (false≢true t)
     by-role Register t h = h
-    by-role ResetRegister t h = h
+    by-role AsyncResetRegister t h = h
     by-role Constant t h = absurd (false≢true t)
     by-role Initial t h = absurd (false≢true t)
     by-role Source t h = absurd (false≢true t)
@@ -235,7 +235,7 @@ module _ (d : DesignOf) (shape : IsDesign d) (flat : IsFlat d) (i : ℕ) (c : Ce
     one-width = record { d = data-width ∙ sym output-width; value = value-is (asks c.kind Srst) (asks c.kind Arst) refl refl ∙ sym output-width }
 
 -- a register whose reset shows at once asks for it
-pub at-once-asks : (k : Kind) → role_of k ≡ ResetRegister → asks k Arst ≡ true
+pub at-once-asks : (k : Kind) → role_of k ≡ AsyncResetRegister → asks k Arst ≡ true
 at-once-asks (UnaryCell k) h = absurd cc
 at-once-asks (BinaryCell k) h = absurd cc
 at-once-asks (ReduceCell k) h = absurd cc
@@ -266,7 +266,7 @@ at-once-asks InitState h = absurd cc
 at-once-asks (LeftOutCell k) h = absurd cc
 at-once-asks Unknown h = absurd cc
 
-pub at-once-few : (d : DesignOf) (shape : IsDesign d) (flat : IsFlat d) (i : ℕ) (c : CellOf) (at : IsCell d i c) → role_of c.kind ≡ ResetRegister → length (parameter_places d c ArstValue) ≤ 4096
+pub at-once-few : (d : DesignOf) (shape : IsDesign d) (flat : IsFlat d) (i : ℕ) (c : CellOf) (at : IsCell d i c) → role_of c.kind ≡ AsyncResetRegister → length (parameter_places d c ArstValue) ≤ 4096
 at-once-few d shape flat i c at role =
     let register : is_register (role_of c.kind) ≡ true = ap is_register role in
     omega (arith, at-once-value d shape flat i c at register (at-once-asks c.kind role), output-width d shape flat i c at register, outputs-few d shape flat i c at)

@@ -16,7 +16,7 @@ use Rattle.word_model.specs.Layout.{bit_place, zero_place}
 use Rattle.word_model.specs.Nodes.{AreNodes, IsNodeOf}
 use Rattle.word_model.specs.Registers.{AreStarts, registers_of}
 
--- where the kept row of each cell begins, and after the last one where the model ends
+-- where the stored row of each cell begins, and after the last one where the model ends
 pub record AreOffsets (d : DesignOf) (offsets : List ℕ) : Type 0 where
   pub size : length offsets ≡ length d.cells + 1
   pub each : (i : ℕ) → i ≤ length d.cells → slice_index offsets i ≡ places d + kept_offset d i

@@ -15,7 +15,7 @@ use Rattle.design_signals.specs.declared.sig_bit.SigBit.TheVariants.{Const, Free
 use Rattle.model_core.specs.Meaning.{Cycle}
 use Rattle.model_core.specs.Shape.{ModelOf}
 
--- kept rows stand after the constants, in file order, lowest bit first
+-- stored rows stand after the constants, in file order, lowest bit first
 abbrev pub kept_place : DesignOf → ℕ → ℕ → ℕ
 kept_place d i k = places d + kept_offset d i + k
 
@@ -51,7 +51,7 @@ abbrev pub bit_place : DesignOf → List SigBit → ℕ
 bit_place d [] = zero_place d
 bit_place d (b ∷ bits) = place_of d b
 
--- what the wires, the free bits and the kept rows have in a cycle
+-- what the wires, the free bits and the stored rows have in a cycle
 abbrev pub valued : DesignOf → Cycle → Valuation
 valued d c = record {
   wire = λ w b. c (offset d w + b);
@@ -64,7 +64,7 @@ pub record HasConstants (m : ModelOf) (c : Cycle) : Type 0 where
   pub zero : c m.zero ≡ false
   pub one : c (suc m.zero) ≡ true
 
--- two valuations have the same at each declared bit and in each kept row
+-- two valuations have the same at each declared bit and in each stored row
 pub record IsAlike (d : DesignOf) (v w : Valuation) : Type 0 where
   pub bits : (b : SigBit) → IsDeclared d.wires d.free b → bit_in v b ≡ bit_in w b
   pub kept : (i k : ℕ) (c : CellOf) → IsCell d i c → k < kept_width c → v.kept i k ≡ w.kept i k

@@ -11,7 +11,7 @@ use Rattle.model_core.specs.Shape.{ModelOf, states}
 use Rattle.word_model.specs.Layout.{HasConstants, state_place, valued}
 use Rattle.word_model.specs.Registers.{AreStarts}
 
--- Places: the wires' bits in file order, lowest first, the free bits by their numbers, the constants 0 and 1, and the kept rows.
+-- Places: the wires' bits in file order, lowest first, the free bits by their numbers, the constants 0 and 1, and the stored rows.
 pub record IsModelOf (d : DesignOf) (m : ModelOf) : Type 0 where
   pub size : m.size ≡ places d + kept_bits d
   pub zero : m.zero ≡ wire_bits d + d.free

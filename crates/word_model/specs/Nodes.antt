@@ -9,7 +9,7 @@ use Rattle.design_core.specs.Places.{place_of}
 use Rattle.design_core.specs.declared.names.ParameterName.TheVariants.{ASigned, BSigned, Offset, ArstPolarity, ArstValue}
 use Rattle.design_core.specs.declared.names.PortName.TheVariants.{A, B, S, Arst}
 use Rattle.design_core.specs.declared.table.Role.{Role}
-use Rattle.design_core.specs.declared.table.Role.TheVariants.{Combinational, Register, ResetRegister, Constant, Initial, Source, Statement, Unsupported}
+use Rattle.design_core.specs.declared.table.Role.TheVariants.{Combinational, Register, AsyncResetRegister, Constant, Initial, Source, Statement, Unsupported}
 use Rattle.design_graph.specs.declared.driver.Driver.{Driver}
 use Rattle.design_graph.specs.declared.driver.Driver.TheVariants.{Cell, Connect}
 use Rattle.design_meaning.specs.Meaning.{IsCell}
@@ -33,7 +33,7 @@ cell_node d c = record {
   y = signal_places d (output_of c);
 }
 
--- a register with an asynchronous reset: its kept row or its reset value, by ARST and its polarity
+-- a register with an asynchronous reset: its stored row or its reset value, by ARST and its polarity
 abbrev pub reset_node : DesignOf → ℕ → CellOf → NodeOf
 reset_node d i c = record {
   op = op.Mux;
@@ -50,7 +50,7 @@ copy_node d left right = record { op = op.Copy; a = place_of d right ∷ []; b =
 abbrev pub IsNodeOfRole : Role → DesignOf → ℕ → CellOf → NodeOf → Type 0
 IsNodeOfRole Combinational d i c n = n ≡ cell_node d c
 IsNodeOfRole Register d i c n = ⊥
-IsNodeOfRole ResetRegister d i c n = n ≡ reset_node d i c
+IsNodeOfRole AsyncResetRegister d i c n = n ≡ reset_node d i c
 IsNodeOfRole Constant d i c n = ⊥
 IsNodeOfRole Initial d i c n = ⊥
 IsNodeOfRole Source d i c n = ⊥

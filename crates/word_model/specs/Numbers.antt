@@ -4,17 +4,17 @@ use Rattle.std.specs.List.{enumerate_from, flat_map}
 use Rattle.design_core.specs.Shape.{CellOf, DesignOf}
 use Rattle.design_core.specs.Table.{role_of}
 use Rattle.design_core.specs.declared.table.Role.{Role}
-use Rattle.design_core.specs.declared.table.Role.TheVariants.{Combinational, Register as RegisterRole, ResetRegister, Constant as ConstantRole, Initial as InitialRole, Source, Statement, Unsupported}
+use Rattle.design_core.specs.declared.table.Role.TheVariants.{Combinational, Register as RegisterRole, AsyncResetRegister, Constant as ConstantRole, Initial as InitialRole, Source, Statement, Unsupported}
 use Rattle.design_meaning.specs.States.{StateBit, state_of}
 use Rattle.word_model.specs.Layout.{state_place}
 use Rattle.word_model.specs.declared.numbers.Group.{Group}
 use Rattle.word_model.specs.declared.numbers.Group.TheVariants.{Registers, Constants, Initials}
 
--- cells of which the state bits are numbered one after the other: registers, with and without a kept row; `$anyconst`; `$initstate`
+-- cells of which the state bits are numbered one after the other: registers, with and without a stored row; `$anyconst`; `$initstate`
 abbrev pub has : Group → Role → Bool
 has Registers Combinational = false
 has Registers RegisterRole = true
-has Registers ResetRegister = true
+has Registers AsyncResetRegister = true
 has Registers ConstantRole = false
 has Registers InitialRole = false
 has Registers Source = false
@@ -22,7 +22,7 @@ has Registers Statement = false
 has Registers Unsupported = false
 has Constants Combinational = false
 has Constants RegisterRole = false
-has Constants ResetRegister = false
+has Constants AsyncResetRegister = false
 has Constants ConstantRole = true
 has Constants InitialRole = false
 has Constants Source = false
@@ -30,7 +30,7 @@ has Constants Statement = false
 has Constants Unsupported = false
 has Initials Combinational = false
 has Initials RegisterRole = false
-has Initials ResetRegister = false
+has Initials AsyncResetRegister = false
 has Initials ConstantRole = false
 has Initials InitialRole = true
 has Initials Source = false

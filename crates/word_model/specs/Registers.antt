@@ -11,7 +11,7 @@ use Rattle.design_core.specs.declared.names.ParameterName.TheVariants.{EnPolarit
 use Rattle.design_core.specs.declared.names.PortName.{PortName}
 use Rattle.design_core.specs.declared.names.PortName.TheVariants.{D, En, Srst, Arst}
 use Rattle.design_core.specs.declared.table.Role.{Role}
-use Rattle.design_core.specs.declared.table.Role.TheVariants.{Combinational, Register, ResetRegister, Constant, Initial, Source, Statement, Unsupported}
+use Rattle.design_core.specs.declared.table.Role.TheVariants.{Combinational, Register, AsyncResetRegister, Constant, Initial, Source, Statement, Unsupported}
 use Rattle.design_meaning.specs.Meaning.{IsStart}
 use Rattle.design_meaning.specs.States.{state_of}
 use Rattle.model_core.specs.Shape.{ModelOf, RegisterOf}
@@ -59,7 +59,7 @@ plain_register d q row = record { q = q; d = row; value = row; enable = always d
 abbrev pub registers_of_role : Role → DesignOf → ℕ → CellOf → List RegisterOf
 registers_of_role Combinational d i c = []
 registers_of_role Register d i c = table_register d c (signal_places d (output_of c)) ∷ []
-registers_of_role ResetRegister d i c = table_register d c (kept_places d i (length (output_of c))) ∷ []
+registers_of_role AsyncResetRegister d i c = table_register d c (kept_places d i (length (output_of c))) ∷ []
 registers_of_role Constant d i c = plain_register d (signal_places d (output_of c)) (signal_places d (output_of c)) ∷ []
 registers_of_role Initial d i c = plain_register d (signal_places d (output_of c)) (zero_place d ∷ []) ∷ []
 registers_of_role Source d i c = []
@@ -73,7 +73,7 @@ registers_of d (i, c) = registers_of_role (role_of c.kind) d i c
 abbrev pub BeginsWith : Role → DesignOf → ℕ → ℕ → Bool → Type 0
 BeginsWith Combinational d i k x = ⊥
 BeginsWith Register d i k x = IsStart d i k x
-BeginsWith ResetRegister d i k x = IsStart d i k x
+BeginsWith AsyncResetRegister d i k x = IsStart d i k x
 BeginsWith Constant d i k x = ⊥
 BeginsWith Initial d i k x = x ≡ true
 BeginsWith Source d i k x = ⊥

@@ -42,7 +42,7 @@ fn kept_width(cell: &Cell) -> Result<u32, AllocError>
     ensures { IfOk result (λ width. width ≡ kept_width cell.now) }
 {
     match role_of(cell.kind()) {
-        Role::ResetRegister => bit_count(cell.output()),
+        Role::AsyncResetRegister => bit_count(cell.output()),
         Role::Combinational
         | Role::Register
         | Role::Constant
@@ -53,7 +53,7 @@ fn kept_width(cell: &Cell) -> Result<u32, AllocError>
     }
 }
 
-// Where the kept row of each cell begins, and after the last where the model ends, if 32 bits hold it.
+// Where the stored row of each cell begins, and after the last where the model ends, if 32 bits hold it.
 pub(crate) fn kept_offsets(alloc: Global, design: &Design) -> Result<Vec<u32>, AllocError>
     ensures { IfOk result (λ offsets. AreOffsets design.now offsets.items) }
 {
@@ -89,7 +89,7 @@ fn built(alloc: Global, flat: &Flat) -> Result<Draft, AllocError>
     Ok(draft)
 }
 
-/// The model of a flat design: its bits, kept rows and constants by places, and its cycles and runs both ways. It has one node for each
+/// The model of a flat design: its bits, stored rows and constants by places, and its cycles and runs both ways. It has one node for each
 /// combinational cell, each register with an asynchronous reset and each bit of a connect, and one register for each cell with a state.
 pub fn build(alloc: Global, flat: &Flat) -> Result<WordModel, AllocError>
     ensures model { IfOk result (λ m. IsModelOf flat.now m) }

@@ -125,7 +125,7 @@ fn push_cell(
     draft.push_node(op, &rows.a, &rows.b, &rows.s, &rows.y)
 }
 
-// Adds the node of a register with an asynchronous reset, whose kept row begins at `first`.
+// Adds the node of a register with an asynchronous reset, whose stored row begins at `first`.
 fn push_reset(
     design: &Design,
     cell: &Cell,
@@ -238,7 +238,7 @@ fn push_place(
     let cells = design.cells();
     let cell = &cells[place];
     match role_of(cell.kind()) {
-        Role::ResetRegister => push_reset(design, cell, offsets[place], rows, draft),
+        Role::AsyncResetRegister => push_reset(design, cell, offsets[place], rows, draft),
         _ => push_cell(design, cell, rows, draft),
     }
 }

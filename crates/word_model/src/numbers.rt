@@ -31,7 +31,7 @@ impl Group {
         ensures { result ≡ has self role }
     {
         match role {
-            Role::Register | Role::ResetRegister => self == Group::Registers,
+            Role::Register | Role::AsyncResetRegister => self == Group::Registers,
             Role::Constant => self == Group::Constants,
             Role::Initial => self == Group::Initials,
             Role::Combinational | Role::Source | Role::Statement | Role::Unsupported => false,
@@ -56,7 +56,7 @@ fn fill_states(
     let cell = &cells[place];
     match role_of(cell.kind()) {
         Role::Register | Role::Constant | Role::Initial => fill_output(design, cell, row),
-        Role::ResetRegister => {
+        Role::AsyncResetRegister => {
             fill_output(design, cell, row)?;
             let count = row.len();
             fill_range(offsets[place], count, row)
@@ -108,7 +108,7 @@ fn push_group(
     Ok(())
 }
 
-/// The places in the design's model of its state bits by their numbers, the first of which is 1: the bits of registers, kept rows among
+/// The places in the design's model of its state bits by their numbers, the first of which is 1: the bits of registers, stored rows among
 /// them, then of `$anyconst`, then of `$initstate`, each in file order, lowest first.
 pub fn numbered_places(alloc: Global, flat: &Flat) -> Result<Vec<u32>, AllocError>
     ensures { IfOk result (λ numbers. numbers.items ≡ numbered_places flat.now) }

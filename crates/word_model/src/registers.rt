@@ -245,7 +245,7 @@ fn push_register(
             fill_output(design, cell, &mut rows.y)?;
             push_held(flat, cell, rows, digits, draft)
         }
-        Role::ResetRegister => {
+        Role::AsyncResetRegister => {
             fill_output(design, cell, &mut rows.s)?;
             fill_range(offsets[place], rows.s.len(), &mut rows.y)?;
             push_held(flat, cell, rows, digits, draft)

@@ -32,7 +32,7 @@ end
 const TURNED_LINES: &str =
     "1 sort bitvec 1\n2 zero 1\n3 state 1\n4 init 1 3 2\n5 not 1 3\n6 next 1 3 5\n7 ones 1\n8 not 1 5\n9 and 1 7 8\n10 bad 9\n";
 
-// A counter of two bits that must not come to 3.
+// A counter of two bits that must not reach 3.
 const COUNTED: &str = r"module \t
   wire input 1 \clk
   attribute \init 2'00

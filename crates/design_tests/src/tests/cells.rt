@@ -61,7 +61,7 @@ fn table_has_its_lines(rt: HostRuntime) {
     for (kind, role, count) in [
         (Kind::Pmux, Role::Combinational, 4),
         (Kind::Sdffe, Role::Register, 5),
-        (Kind::Adffe, Role::ResetRegister, 5),
+        (Kind::Adffe, Role::AsyncResetRegister, 5),
         (Kind::InitState, Role::Initial, 1),
         (Kind::Unknown, Role::Unsupported, 0),
     ] {

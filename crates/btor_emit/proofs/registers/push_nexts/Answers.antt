@@ -2,7 +2,7 @@ use Rattle.std.proofs.Common.{◌≡◌, ◌<◌, ◌+◌, ◌∙◌, ℕ, suc, 
 use Rattle.std.specs.List.{flat_map}
 use Rattle.std.proofs.Math.Seq.{take-length}
 use Rattle.btor_emit.specs.Nexts.{AreNexts, AreParts, MayHaveParts}
-use Rattle.btor_emit.proofs.Edging.{edge_at, edge_inside, register_end}
+use Rattle.btor_emit.proofs.Edging.{edge_at, span_of}
 use Rattle.btor_emit.proofs.NextRows.{all_done, ends, may_have, nexts_more, nexts_none}
 use Rattle.btor_emit.proofs.registers.push_nexts.Goals as goal
 use Rattle.model_core.specs.Shape.{RegisterOf, states}
@@ -16,10 +16,10 @@ overflow_add-end c =
     let m = c.args.model.now in
     let i = c.loop-register.register in
     let l : i < length m.registers = omega arith in
-    let r = at_place m.registers i l in
-    let end = register_end m i (length c.q.result.now) r.0 r.1 (ap (λ (ps : List ℕ). length ps) (c.q.ensures r.0 r.1)) in
+    let span = span_of m i c.q.result.now c.requires.model.registers l c.q.ensures in
+    let end = span.end in
     let first = c.loop-register.invariant.first in
-    let inside = edge_inside m (i + 1) in
+    let inside = span.inside in
     let bits = ap (λ (ps : List ℕ). length ps) c.states-bits.ensures in
     omega arith
 
@@ -46,9 +46,10 @@ push_parts-requires-clause-parts c =
     let i = c.loop-register.register in
     let l : i < length m.registers = omega arith in
     let r = at_place m.registers i l in
+    let span = span_of m i c.q.result.now c.requires.model.registers l c.q.ensures in
     let ss = c.args.states.now in
     let inv = c.loop-register.invariant in
-    let end = register_end m i (length c.q.result.now) r.0 r.1 (ap (λ (ps : List ℕ). length ps) (c.q.ensures r.0 r.1)) in
+    let end = span.end in
     let first = inv.first in
     let z : suc i ≡ i + 1 = omega arith in
     let stop : edge_at m (suc i) ≡ c.loop-register.first + length c.q.result.now = ap (edge_at m) z ∙ sym end ∙ ap (λ (k : ℕ). k + length c.q.result.now) (sym first) in
@@ -62,9 +63,10 @@ loop-register-preserved c =
     let i = c.loop-register.register in
     let l : i < length m.registers = omega arith in
     let r = at_place m.registers i l in
+    let span = span_of m i c.q.result.now c.requires.model.registers l c.q.ensures in
     let ss = c.args.states.now in
     let inv = c.loop-register.invariant in
-    let end = register_end m i (length c.q.result.now) r.0 r.1 (ap (λ (ps : List ℕ). length ps) (c.q.ensures r.0 r.1)) in
+    let end = span.end in
     let first = inv.first in
     let z : suc i ≡ i + 1 = omega arith in
     let stop : c.loop-register.first + length c.q.result.now ≡ edge_at m (suc i) = sym (ap (edge_at m) z ∙ sym end ∙ ap (λ (k : ℕ). k + length c.q.result.now) (sym first)) in

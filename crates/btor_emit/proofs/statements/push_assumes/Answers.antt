@@ -1,45 +1,19 @@
-use Rattle.std.proofs.Common.{◌≡◌, ◌<◌, ℕ, get_or, length, take, ◌+◌, refl, arith}
-use Rattle.std.proofs.lemmas.Option.{slice_get-get_or}
-use Rattle.std.proofs.lemmas.List.{take_more}
+use Rattle.std.proofs.Common.{get_or, arith}
 use Rattle.btor_core.specs.Shape.{bads, constraints}
 use Rattle.btor_emit.specs.Said.{is_held}
-use Rattle.btor_emit.proofs.Saying.{ready_one, said_more, said_none}
+use Rattle.btor_emit.proofs.Saying.{local_held, no_statement, ready_next, said_next, said_none}
 use Rattle.btor_emit.proofs.statements.push_assumes.Goals as goal
-use Rattle.model_core.specs.Meaning.{Cycle}
-use Rattle.model_core.specs.Shape.{IsStatement}
-use Rattle.model_core.specs.declared.model.Statement.{Statement}
-use Rattle.model_core.proofs.Lists.{all_at}
 
 pub loop-k-init : goal.loop-k-init
 loop-k-init c = said_none constraints bads is_held c.args.draft.now c.args.table.now c.requires.btor c.requires.seats
 
-abbrev none : Statement
-none = record { a = 0; en = 0 }
-
-local : (c d : Cycle) (s : Statement) → ((p : ℕ) → d p ≡ c p) → is_held d s ≡ is_held c s
-local c d s h = rw (h s.a, h s.en) refl
-
 pub push_assume-requires-clause-a : goal.push_assume-requires-clause-a
-push_assume-requires-clause-a c =
-    let ss = c.args.assumes.now in
-    let i = c.loop-k.k in
-    let l : i < length ss = omega arith in
-    let w = (all_at (IsStatement (length c.args.table.now)) ss i (get_or ss i none) c.requires.inside (slice_get-get_or ss i none l)).0 in
-    let o = c.loop-k.invariant.only in
-    ready_one c.loop-k.draft c.loop-k.table (get_or ss i none).a o.btor o.seats (let z = o.size in omega arith)
+push_assume-requires-clause-a c = (ready_next constraints bads is_held c.args.draft.now c.loop-k.draft c.args.table.now c.loop-k.table c.args.assumes.now c.loop-k.k (omega arith) c.loop-k.invariant c.requires.inside).0
 
 pub push_assume-requires-clause-en : goal.push_assume-requires-clause-en
-push_assume-requires-clause-en c =
-    let ss = c.args.assumes.now in
-    let i = c.loop-k.k in
-    let l : i < length ss = omega arith in
-    let w = (all_at (IsStatement (length c.args.table.now)) ss i (get_or ss i none) c.requires.inside (slice_get-get_or ss i none l)).1 in
-    let o = c.loop-k.invariant.only in
-    ready_one c.loop-k.draft c.loop-k.table (get_or ss i none).en o.btor o.seats (let z = o.size in omega arith)
+push_assume-requires-clause-en c = (ready_next constraints bads is_held c.args.draft.now c.loop-k.draft c.args.table.now c.loop-k.table c.args.assumes.now c.loop-k.k (omega arith) c.loop-k.invariant c.requires.inside).1
 
 pub loop-k-preserved : goal.loop-k-preserved
 loop-k-preserved c =
-    let ss = c.args.assumes.now in
-    let i = c.loop-k.k in
-    let l : i < length ss = omega arith in
-    said_more constraints bads is_held c.args.draft.now c.loop-k.draft c.push_assume.new.draft c.args.table.now c.loop-k.table c.push_assume.new.table (take i ss) (take (i + 1) ss) (get_or ss i none) (take_more ss i none l) c.loop-k.invariant c.in_ok-push_assume.ensures (λ a b h. local a b (get_or ss i none) h)
+    said_next constraints bads is_held c.args.draft.now c.loop-k.draft c.args.table.now c.loop-k.table c.args.assumes.now c.loop-k.k (omega arith) c.loop-k.invariant c.push_assume.new.draft c.push_assume.new.table c.in_ok-push_assume.ensures
+    (λ a b. local_held a b (get_or c.args.assumes.now c.loop-k.k no_statement))

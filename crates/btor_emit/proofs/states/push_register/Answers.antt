@@ -2,19 +2,17 @@ use Rattle.std.proofs.Common.{◌≡◌, ◌<◌, ◌≤◌, ◌≢◌, ◌+◌,
 use Rattle.std.specs.Prelude.{Option}
 use Rattle.btor_emit.specs.Emitting.{AreStates}
 use Rattle.btor_emit.specs.States.{is_known}
-use Rattle.btor_emit.proofs.Edging.{edge_at, edge_inside, next_begins, register_end, stretch_of}
+use Rattle.btor_emit.proofs.Edging.{edge_at, next_begins, span_of, stretch_of}
 use Rattle.btor_emit.proofs.states.push_register.Goals as goal
-use Rattle.model_core.specs.Shape.{IsRegister}
-use Rattle.model_core.proofs.Lists.{all_at, at_place}
 
 pub overflow_add-end : goal.overflow_add-end
 overflow_add-end c =
     let m = c.args.model.now in
     let i = c.args.register in
-    let r = at_place m.registers i c.requires.register in
-    let end = register_end m i (length c.q.result.now) r.0 r.1 (ap (λ (ps : List ℕ). length ps) (c.q.ensures r.0 r.1)) in
+    let span = span_of m i c.q.result.now c.requires.model.registers c.requires.register c.q.ensures in
+    let end = span.end in
     let first = c.requires.first in
-    let inside = edge_inside m (i + 1) in
+    let inside = span.inside in
     let bits = ap (λ (ps : List ℕ). length ps) c.states-bits.ensures in
     omega arith
 
@@ -25,10 +23,10 @@ pub stretch-stop-requires-clause-end : goal.stretch-stop-requires-clause-end
 stretch-stop-requires-clause-end c =
     let m = c.args.model.now in
     let i = c.args.register in
-    let r = at_place m.registers i c.requires.register in
-    let end = register_end m i (length c.q.result.now) r.0 r.1 (ap (λ (ps : List ℕ). length ps) (c.q.ensures r.0 r.1)) in
+    let span = span_of m i c.q.result.now c.requires.model.registers c.requires.register c.q.ensures in
+    let end = span.end in
     let first = c.requires.first in
-    let inside = edge_inside m (i + 1) in
+    let inside = span.inside in
     let same = c.requires.model.starts in
     let long = ap (λ (ds : List (Option Bool)). length ds) c.starts.ensures in
     omega arith
@@ -37,10 +35,10 @@ pub push_state-requires-clause-inside : goal.push_state-requires-clause-inside
 push_state-requires-clause-inside c =
     let m = c.args.model.now in
     let i = c.args.register in
-    let r = at_place m.registers i c.requires.register in
-    let end = register_end m i (length c.q.result.now) r.0 r.1 (ap (λ (ps : List ℕ). length ps) (c.q.ensures r.0 r.1)) in
+    let span = span_of m i c.q.result.now c.requires.model.registers c.requires.register c.q.ensures in
+    let end = span.end in
     let first = c.requires.first in
-    let inside = edge_inside m (i + 1) in
+    let inside = span.inside in
     let most = c.stretch-stop.ensures.most in
     omega arith
 
@@ -48,9 +46,8 @@ pub push_state-requires-clause-width : goal.push_state-requires-clause-width
 push_state-requires-clause-width c =
     let m = c.args.model.now in
     let i = c.args.register in
-    let r = at_place m.registers i c.requires.register in
-    let wide = ap (λ (ps : List ℕ). length ps) (c.q.ensures r.0 r.1) in
-    let narrow = (all_at (IsRegister m.size) m.registers i r.0 c.requires.model.registers r.1).narrow in
+    let span = span_of m i c.q.result.now c.requires.model.registers c.requires.register c.q.ensures in
+    let narrow = span.narrow in
     let most = c.stretch-stop.ensures.most in
     let low = c.loop-next.invariant.low in
     omega arith
@@ -59,8 +56,8 @@ pub push_state-requires-clause-stretch : goal.push_state-requires-clause-stretch
 push_state-requires-clause-stretch c = λ a wide.
     let m = c.args.model.now in
     let i = c.args.register in
-    let r = at_place m.registers i c.requires.register in
-    let end = register_end m i (length c.q.result.now) r.0 r.1 (ap (λ (ps : List ℕ). length ps) (c.q.ensures r.0 r.1)) in
+    let span = span_of m i c.q.result.now c.requires.model.registers c.requires.register c.q.ensures in
+    let end = span.end in
     let first = c.requires.first in
     let next = c.loop-next.next in
     let stop = c.stretch-stop.result in
@@ -73,8 +70,8 @@ pub loop-next-preserved : goal.loop-next-preserved
 loop-next-preserved c =
     let m = c.args.model.now in
     let i = c.args.register in
-    let r = at_place m.registers i c.requires.register in
-    let end = register_end m i (length c.q.result.now) r.0 r.1 (ap (λ (ps : List ℕ). length ps) (c.q.ensures r.0 r.1)) in
+    let span = span_of m i c.q.result.now c.requires.model.registers c.requires.register c.q.ensures in
+    let end = span.end in
     let first = c.requires.first in
     let next = c.loop-next.next in
     let stop = c.stretch-stop.result in
@@ -94,8 +91,8 @@ pub returns : goal.returns
 returns c =
     let m = c.args.model.now in
     let i = c.args.register in
-    let r = at_place m.registers i c.requires.register in
-    let end = register_end m i (length c.q.result.now) r.0 r.1 (ap (λ (ps : List ℕ). length ps) (c.q.ensures r.0 r.1)) in
+    let span = span_of m i c.q.result.now c.requires.model.registers c.requires.register c.q.ensures in
+    let end = span.end in
     let first = c.requires.first in
     let high = c.loop-next.invariant.high in
     let test = c.loop-next-test.false in

@@ -2,18 +2,17 @@ use Rattle.std.proofs.Common.{◌≡◌, ◌<◌, ◌+◌, ◌∙◌, ℕ, List,
 use Rattle.std.specs.List.{flat_map}
 use Rattle.std.proofs.Math.Seq.{take-length}
 use Rattle.btor_emit.specs.Emitting.{AreStates}
-use Rattle.btor_emit.proofs.Edging.{edge_at, edge_inside, register_end}
+use Rattle.btor_emit.proofs.Edging.{edge_at, span_of}
 use Rattle.btor_emit.proofs.states.push_states.Goals as goal
 use Rattle.model_core.specs.Shape.{RegisterOf, states}
-use Rattle.model_core.proofs.Lists.{at_place}
 
 pub loop-register-preserved : goal.loop-register-preserved
 loop-register-preserved c =
     let m = c.args.model.now in
     let i = c.loop-register.register in
     let l : i < length m.registers = omega arith in
-    let r = at_place m.registers i l in
-    let end = register_end m i (length c.q.result.now) r.0 r.1 (ap (λ (ps : List ℕ). length ps) (c.q.ensures r.0 r.1)) in
+    let span = span_of m i c.q.result.now c.requires.model.registers l c.q.ensures in
+    let end = span.end in
     let first = c.loop-register.invariant.first in
     let e : c.loop-register.first + length c.q.result.now ≡ edge_at m (i + 1) = omega arith in
     record { first = e; states = subst (λ (k : ℕ). AreStates m c.push_register.new.draft c.push_register.new.table c.push_register.new.made.items k) (sym e) c.in_ok-push_register.ensures }
@@ -23,10 +22,10 @@ overflow_add-first c =
     let m = c.args.model.now in
     let i = c.loop-register.register in
     let l : i < length m.registers = omega arith in
-    let r = at_place m.registers i l in
-    let end = register_end m i (length c.q.result.now) r.0 r.1 (ap (λ (ps : List ℕ). length ps) (c.q.ensures r.0 r.1)) in
+    let span = span_of m i c.q.result.now c.requires.model.registers l c.q.ensures in
+    let end = span.end in
     let first = c.loop-register.invariant.first in
-    let inside = edge_inside m (i + 1) in
+    let inside = span.inside in
     let bits = ap (λ (ps : List ℕ). length ps) c.states-bits.ensures in
     omega arith
 

@@ -4,7 +4,7 @@ use Rattle.design_core.specs.Ports.{digits_at}
 use Rattle.design_core.specs.Shape.{IsNumbered}
 use Rattle.design_core.specs.Table.{role_of}
 use Rattle.design_core.specs.declared.names.ParameterName.TheVariants.{ArstValue}
-use Rattle.design_core.specs.declared.table.Role.TheVariants.{ResetRegister}
+use Rattle.design_core.specs.declared.table.Role.TheVariants.{AsyncResetRegister}
 use Rattle.design_core.specs.declared.digit.Digit.TheVariants.{Free as FreeDigit}
 use Rattle.design_core.specs.declared.digit.Digit.{Digit}
 use Rattle.design_core.specs.Places.{place_of}
@@ -28,7 +28,7 @@ returns-in_ok-add_digits-in-Some c =
     let x = (goal.at.returns-in_ok-add_digits-in-Some c).In-Some in
     let d = c.args.design.now in
     let cell = c.args.cell.now in
-    let role : role_of cell.kind ≡ ResetRegister = ap (λ k. role_of k) (sym c.kind.ensures) ∙ (sym c.role_of.ensures ∙ c.in-ResetRegister.is) in
+    let role : role_of cell.kind ≡ AsyncResetRegister = ap (λ k. role_of k) (sym c.kind.ensures) ∙ (sym c.role_of.ensures ∙ c.in-AsyncResetRegister.is) in
     Extends-as c.args.graph.now c.add_digits.new.graph (λ p q. (p ≡ c.args.node) × IsDigitPlace d c.in-Some.constant.now q) (λ p q. (p ≡ c.args.node) × IsResetPlace d cell q) c.in_ok-add_digits-in-Some.ensures
     (λ p q h. let n = h.1 in (h.0, (Free n.0, (role, (n.0, refl, in-digit (digits_at cell.parameters ArstValue) (FreeDigit n.0) c.in-Some.constant.now (digits x) n.1)), n.2)))
     (λ p q h.

@@ -1,5 +1,5 @@
 use Rattle.std.proofs.Common.{◌∙◌}
-use Rattle.frame_gates.proofs.Lists.{at_place}
+use Rattle.model_core.proofs.Lists.{at_place}
 use Rattle.frame_gates.proofs.Noding.{a_read, copy_given, copy_long, y_once, y_read}
 use Rattle.frame_gates.proofs.nodes.copy_node.Goals as goal
 

@@ -1,7 +1,7 @@
 use Rattle.std.proofs.Common.{arith, rules}
 use Rattle.gate_rows.proofs.Building.{Builds-trans}
 use Rattle.frame_gates.specs.Costs.{node_gates}
-use Rattle.frame_gates.proofs.Lists.{at_place}
+use Rattle.model_core.proofs.Lists.{at_place}
 use Rattle.frame_gates.proofs.Noding.{sum_step, sum_within}
 use Rattle.frame_gates.proofs.Giving.{Given-more}
 use Rattle.frame_gates.proofs.nodes.run_nodes.Goals as goal

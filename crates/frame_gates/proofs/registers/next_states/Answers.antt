@@ -2,7 +2,7 @@ use Rattle.std.proofs.Common.{arith, rules, add-one, ◌*◌, length}
 use Rattle.std.proofs.lemmas.List.{take_all}
 use Rattle.gate_rows.proofs.Building.{Builds-trans}
 use Rattle.model_core.specs.Shape.{RegisterOf}
-use Rattle.frame_gates.proofs.Lists.{at_place}
+use Rattle.model_core.proofs.Lists.{at_place}
 use Rattle.frame_gates.proofs.Noding.{sum_step, sum_within}
 use Rattle.frame_gates.proofs.Following.{next_more}
 use Rattle.frame_gates.proofs.registers.next_states.Goals as goal

@@ -8,7 +8,7 @@ use Rattle.design_core.specs.Asked.{output_of}
 use Rattle.design_core.specs.Shape.{CellOf}
 use Rattle.design_core.specs.Table.{role_of}
 use Rattle.design_core.specs.declared.table.Role.{Role}
-use Rattle.design_core.specs.declared.table.Role.TheVariants.{Combinational, ResetRegister}
+use Rattle.design_core.specs.declared.table.Role.TheVariants.{Combinational, AsyncResetRegister}
 use Rattle.design_graph.specs.Order.{is_in_cycle}
 use Rattle.design_meaning.specs.Meaning.{IsCell}
 use Rattle.design_meaning.specs.Runs.{kept_by_role, kept_width}
@@ -38,7 +38,7 @@ pub push_reset-requires-clause-room : goal.push_reset-requires-clause-room
 push_reset-requires-clause-room c =
     let x = (goal.at.push_reset-requires-clause-room c).After-role_of in
     let width : kept_width c.index-cells-place.result ≡ length (output_of c.index-cells-place.result) =
-    ap (λ (r : Role). kept_by_role r (length (output_of c.index-cells-place.result))) (sym (role x) ∙ c.in-ResetRegister.is) in
+    ap (λ (r : Role). kept_by_role r (length (output_of c.index-cells-place.result))) (sym (role x) ∙ c.in-AsyncResetRegister.is) in
     let lt : c.args.place < length c.args.design.now.cells = slice_get_within c.args.design.now.cells c.args.place c.index-cells-place.result (cell x) in
     omega (arith, width, c.requires.fits, c.requires.offsets.each c.args.place (omega (arith, lt)), sum_by-within kept_width c.args.design.now.cells c.args.place c.index-cells-place.result (cell x))
 
@@ -50,20 +50,20 @@ push_reset-requires-clause-few c =
 pub push_reset-requires-clause-value : goal.push_reset-requires-clause-value
 push_reset-requires-clause-value c =
     let x = (goal.at.push_reset-requires-clause-value c).After-role_of in
-    at-once-few c.args.design.now c.cells-cells.ensures.design c.requires.flat c.args.place c.index-cells-place.result (cell x) (sym (role x) ∙ c.in-ResetRegister.is)
+    at-once-few c.args.design.now c.cells-cells.ensures.design c.requires.flat c.args.place c.index-cells-place.result (cell x) (sym (role x) ∙ c.in-AsyncResetRegister.is)
 
 pub push_cell-requires : goal.push_cell-requires
 push_cell-requires c =
     let x = (goal.at.push_cell-requires c).After-role_of in
     served c.args.design.now c.cells-cells.ensures.design c.requires.flat c.args.place c.index-cells-place.result (cell x)
 
-pub returns-in-ResetRegister : goal.returns-in-ResetRegister
-returns-in-ResetRegister c =
-    let x = (goal.at.returns-in-ResetRegister c).After-role_of in
+pub returns-in-AsyncResetRegister : goal.returns-in-AsyncResetRegister
+returns-in-AsyncResetRegister c =
+    let x = (goal.at.returns-in-AsyncResetRegister c).After-role_of in
     let d = c.args.design.now in
     let y = c.index-cells-place.result in
     let lt : c.args.place < length c.args.design.now.cells = slice_get_within c.args.design.now.cells c.args.place c.index-cells-place.result (cell x) in
-    let is : role_of c.index-cells-place.result.kind ≡ ResetRegister = sym (role x) ∙ c.in-ResetRegister.is in
+    let is : role_of c.index-cells-place.result.kind ≡ AsyncResetRegister = sym (role x) ∙ c.in-AsyncResetRegister.is in
     on_ok_weaker c.push_reset.result
     (λ e. (reset_node d c.args.place y, (y, cell x, subst (λ (r : Role). IsNodeOfRole r c.args.design.now c.args.place c.index-cells-place.result (reset_node c.args.design.now c.args.place c.index-cells-place.result)) (sym is) refl), e))
     (c.push_reset.ensures c.args.place (omega (arith, c.requires.offsets.each c.args.place (omega (arith, lt)))))
@@ -74,7 +74,7 @@ returns-in_default c =
     let d = c.args.design.now in
     let y = c.index-cells-place.result in
     let in_cycle : is_in_cycle (role_of c.index-cells-place.result.kind) ≡ true = subst (λ (z : CellOf). is_in_cycle (role_of z.kind) ≡ true) (sym (same x)) c.requires.driver.2 in
-    let is : role_of c.index-cells-place.result.kind ≡ Combinational = combinational (role_of c.index-cells-place.result.kind) in_cycle (λ e. c.in_default.not-ResetRegister (role x ∙ e)) in
+    let is : role_of c.index-cells-place.result.kind ≡ Combinational = combinational (role_of c.index-cells-place.result.kind) in_cycle (λ e. c.in_default.not-AsyncResetRegister (role x ∙ e)) in
     on_ok_weaker c.push_cell.result
     (λ e. (cell_node d y, (y, cell x, subst (λ (r : Role). IsNodeOfRole r c.args.design.now c.args.place c.index-cells-place.result (cell_node c.args.design.now c.index-cells-place.result)) (sym is) refl), e))
     c.push_cell.ensures

@@ -35,16 +35,16 @@ returns-in-Register c =
     (e ∙ (ap (λ (g : DesignOf). signal_places g (output_of c.index-cells-place.result)) c.design-design.ensures.design ∙ sym (signal-states d c.args.place c.index-cells-place.result c.role_of.result (role x) c.in-Register.is))))
     c.fill_output.ensures
 
-pub returns-in_ok-fill_output-in-ResetRegister : goal.returns-in_ok-fill_output-in-ResetRegister
-returns-in_ok-fill_output-in-ResetRegister c =
-    let x = (goal.at.returns-in_ok-fill_output-in-ResetRegister c).After-role_of in
+pub returns-in_ok-fill_output-in-AsyncResetRegister : goal.returns-in_ok-fill_output-in-AsyncResetRegister
+returns-in_ok-fill_output-in-AsyncResetRegister c =
+    let x = (goal.at.returns-in_ok-fill_output-in-AsyncResetRegister c).After-role_of in
     let d = c.args.flat.now in
     let y = c.index-cells-place.result in
     let wide : c.len-count.result ≡ length (output_of c.index-cells-place.result) =
-    omega (arith, c.len-count.ensures, c.fill_output-in-ResetRegister.new.row.ok.0, ap length c.in_ok-fill_output-in-ResetRegister.ensures, length-map (output_of c.index-cells-place.result) (place_of c.design-design.result.now)) in
+    omega (arith, c.len-count.ensures, c.fill_output-in-AsyncResetRegister.new.row.ok.0, ap length c.in_ok-fill_output-in-AsyncResetRegister.ensures, length-map (output_of c.index-cells-place.result) (place_of c.design-design.result.now)) in
     on_ok_weaker c.fill_range.result
     (λ e. states-each d c.args.place y (cell x) c.fill_range.new.row.items
-    (e ∙ (kept-made d c.args.place y _ (first-is d c.args.offsets.now c.requires.offsets c.args.place y (cell x)) c.len-count.result wide ∙ sym (kept-states d c.args.place y (role x ∙ c.in-ResetRegister.is)))))
+    (e ∙ (kept-made d c.args.place y _ (first-is d c.args.offsets.now c.requires.offsets c.args.place y (cell x)) c.len-count.result wide ∙ sym (kept-states d c.args.place y (role x ∙ c.in-AsyncResetRegister.is)))))
     c.fill_range.ensures
 
 pub returns-in-Combinational : goal.returns-in-Combinational

@@ -8,7 +8,7 @@ use Rattle.design_core.specs.Places.{place_of}
 use Rattle.design_core.specs.Shape.{CellOf, DesignOf, IsDesign}
 use Rattle.design_core.specs.Table.{role_of}
 use Rattle.design_core.specs.declared.table.Role.{Role}
-use Rattle.design_core.specs.declared.table.Role.TheVariants.{Constant, Initial, Register, ResetRegister}
+use Rattle.design_core.specs.declared.table.Role.TheVariants.{Constant, Initial, Register, AsyncResetRegister}
 use Rattle.design_meaning.specs.Meaning.{IsCell, is_register}
 use Rattle.word_model.specs.Layout.{signal_places}
 use Rattle.word_model.specs.Registers.{HasOneWidth, IsRegistered, registers_of, registers_of_role, table_register}
@@ -53,14 +53,14 @@ push_held-requires-clause-few c = is-few (goal.at.push_held-requires-clause-few 
 pub push_held-requires-clause-widths : goal.push_held-requires-clause-widths
 push_held-requires-clause-widths c = is-one (goal.at.push_held-requires-clause-widths c).After-role_of Register c.in-Register.is refl
 
-pub push_held-requires-in-ResetRegister-clause-cell : goal.push_held-requires-in-ResetRegister-clause-cell
-push_held-requires-in-ResetRegister-clause-cell c = is-served (goal.at.push_held-requires-in-ResetRegister-clause-cell c).After-role_of
+pub push_held-requires-in-AsyncResetRegister-clause-cell : goal.push_held-requires-in-AsyncResetRegister-clause-cell
+push_held-requires-in-AsyncResetRegister-clause-cell c = is-served (goal.at.push_held-requires-in-AsyncResetRegister-clause-cell c).After-role_of
 
-pub push_held-requires-in-ResetRegister-clause-few : goal.push_held-requires-in-ResetRegister-clause-few
-push_held-requires-in-ResetRegister-clause-few c = is-few (goal.at.push_held-requires-in-ResetRegister-clause-few c).After-role_of
+pub push_held-requires-in-AsyncResetRegister-clause-few : goal.push_held-requires-in-AsyncResetRegister-clause-few
+push_held-requires-in-AsyncResetRegister-clause-few c = is-few (goal.at.push_held-requires-in-AsyncResetRegister-clause-few c).After-role_of
 
-pub push_held-requires-in-ResetRegister-clause-widths : goal.push_held-requires-in-ResetRegister-clause-widths
-push_held-requires-in-ResetRegister-clause-widths c = is-one (goal.at.push_held-requires-in-ResetRegister-clause-widths c).After-role_of ResetRegister c.in-ResetRegister.is refl
+pub push_held-requires-in-AsyncResetRegister-clause-widths : goal.push_held-requires-in-AsyncResetRegister-clause-widths
+push_held-requires-in-AsyncResetRegister-clause-widths c = is-one (goal.at.push_held-requires-in-AsyncResetRegister-clause-widths c).After-role_of AsyncResetRegister c.in-AsyncResetRegister.is refl
 
 pub push_constant-requires-clause-cell : goal.push_constant-requires-clause-cell
 push_constant-requires-clause-cell c = rw c.design-design.ensures.design (is-served (goal.at.push_constant-requires-clause-cell c).After-role_of)
@@ -76,12 +76,12 @@ push_initial-requires-clause-bit c =
     let x = (goal.at.push_initial-requires-clause-bit c).After-role_of in
     initial-width c.args.flat.now (shape x) c.design-design.ensures.flat c.args.place c.index-cells-place.result (cell x) (sym (role x) ∙ c.in-Initial.is)
 
-pub push_held-requires-in-ResetRegister-clause-q : goal.push_held-requires-in-ResetRegister-clause-q
-push_held-requires-in-ResetRegister-clause-q c =
-    let x = (goal.at.push_held-requires-in-ResetRegister-clause-q c).After-role_of in
+pub push_held-requires-in-AsyncResetRegister-clause-q : goal.push_held-requires-in-AsyncResetRegister-clause-q
+push_held-requires-in-AsyncResetRegister-clause-q c =
+    let x = (goal.at.push_held-requires-in-AsyncResetRegister-clause-q c).After-role_of in
     let wide : c.len.result ≡ length (output_of c.index-cells-place.result) =
-    omega (arith, c.len.ensures, c.fill_output-in-ResetRegister.new.row.ok.0, ap length c.in_ok-fill_output-in-ResetRegister.ensures, length-map (output_of c.index-cells-place.result) (place_of c.design-design.result.now)) in
-    ap length (c.in_ok-fill_range-in-ResetRegister.ensures ∙ kept-made c.args.flat.now c.args.place c.index-cells-place.result _ (first-is c.args.flat.now c.args.offsets.now c.requires.offsets c.args.place c.index-cells-place.result (cell x)) c.len.result wide)
+    omega (arith, c.len.ensures, c.fill_output-in-AsyncResetRegister.new.row.ok.0, ap length c.in_ok-fill_output-in-AsyncResetRegister.ensures, length-map (output_of c.index-cells-place.result) (place_of c.design-design.result.now)) in
+    ap length (c.in_ok-fill_range-in-AsyncResetRegister.ensures ∙ kept-made c.args.flat.now c.args.place c.index-cells-place.result _ (first-is c.args.flat.now c.args.offsets.now c.requires.offsets c.args.place c.index-cells-place.result (cell x)) c.len.result wide)
     ∙ kept-long c.args.flat.now c.args.place (length (output_of c.index-cells-place.result))
 
 pub returns-in_ok-fill_output-in-Register : goal.returns-in_ok-fill_output-in-Register
@@ -95,18 +95,18 @@ returns-in_ok-fill_output-in-Register c =
     (subst (λ (l : List ℕ). IsRegistered c.args.flat.now c.args.place c.index-cells-place.result (table_register c.args.flat.now c.index-cells-place.result l ∷ []) c.args.draft.now c.push_held.new.draft) q (e c.args.place (cell x))))
     c.push_held.ensures
 
-pub returns-in_ok-fill_range-in-ResetRegister : goal.returns-in_ok-fill_range-in-ResetRegister
-returns-in_ok-fill_range-in-ResetRegister c =
-    let x = (goal.at.returns-in_ok-fill_range-in-ResetRegister c).After-role_of in
+pub returns-in_ok-fill_range-in-AsyncResetRegister : goal.returns-in_ok-fill_range-in-AsyncResetRegister
+returns-in_ok-fill_range-in-AsyncResetRegister c =
+    let x = (goal.at.returns-in_ok-fill_range-in-AsyncResetRegister c).After-role_of in
     let d = c.args.flat.now in
     let y = c.index-cells-place.result in
     let wide : c.len.result ≡ length (output_of c.index-cells-place.result) =
-    omega (arith, c.len.ensures, c.fill_output-in-ResetRegister.new.row.ok.0, ap length c.in_ok-fill_output-in-ResetRegister.ensures, length-map (output_of c.index-cells-place.result) (place_of c.design-design.result.now)) in
-    let q = c.in_ok-fill_range-in-ResetRegister.ensures ∙ kept-made d c.args.place y _ (first-is d c.args.offsets.now c.requires.offsets c.args.place y (cell x)) c.len.result wide in
-    on_ok_weaker c.push_held-in-ResetRegister.result
-    (λ e. by-role d c.args.place y (cell x) c.args.draft.now c.push_held-in-ResetRegister.new.draft ResetRegister (sym (role x) ∙ c.in-ResetRegister.is)
-    (subst (λ (l : List ℕ). IsRegistered c.args.flat.now c.args.place c.index-cells-place.result (table_register c.args.flat.now c.index-cells-place.result l ∷ []) c.args.draft.now c.push_held-in-ResetRegister.new.draft) q (e c.args.place (cell x))))
-    c.push_held-in-ResetRegister.ensures
+    omega (arith, c.len.ensures, c.fill_output-in-AsyncResetRegister.new.row.ok.0, ap length c.in_ok-fill_output-in-AsyncResetRegister.ensures, length-map (output_of c.index-cells-place.result) (place_of c.design-design.result.now)) in
+    let q = c.in_ok-fill_range-in-AsyncResetRegister.ensures ∙ kept-made d c.args.place y _ (first-is d c.args.offsets.now c.requires.offsets c.args.place y (cell x)) c.len.result wide in
+    on_ok_weaker c.push_held-in-AsyncResetRegister.result
+    (λ e. by-role d c.args.place y (cell x) c.args.draft.now c.push_held-in-AsyncResetRegister.new.draft AsyncResetRegister (sym (role x) ∙ c.in-AsyncResetRegister.is)
+    (subst (λ (l : List ℕ). IsRegistered c.args.flat.now c.args.place c.index-cells-place.result (table_register c.args.flat.now c.index-cells-place.result l ∷ []) c.args.draft.now c.push_held-in-AsyncResetRegister.new.draft) q (e c.args.place (cell x))))
+    c.push_held-in-AsyncResetRegister.ensures
 
 pub returns-in-Constant : goal.returns-in-Constant
 returns-in-Constant c =
