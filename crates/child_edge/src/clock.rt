@@ -14,7 +14,7 @@ pub(crate) fn millis<R: SystemClock>(rt: &R) -> u64 {
     }
 }
 
-// The same clock, for what is handed to other threads and so keeps no handle.
+// The reading of that clock, for what is handed to other threads and so keeps no handle.
 pub(crate) fn monotonic_millis() -> u64 {
     let mut time = timespec {
         tv_sec: 0,

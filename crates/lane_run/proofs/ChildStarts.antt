@@ -23,7 +23,7 @@ use Rattle.lane_run.specs.Sides.{RanFrom}
 use Rattle.lane_run.specs.Starting.{IsFront, IsKilledFor, NoStart, ReadsScript, Starts, Unstarted, start_of, with_starts}
 use Rattle.lane_run.proofs.Readers.{comes_within}
 
--- what an ended output comes to, it comes to where something else says that it ended
+-- what an ended output is judged as, it is judged as where something else says that it ended
 comes_ended : {T : Type 0} (st en pr : List ℕ → Judged T → Type 0) (A B : Type 0) (output proof : List ℕ) (part : Reader T)
     → (A → B) → Comes st en pr A output proof part → Comes st en pr B output proof part
 comes_ended st en pr A B output proof (reader.Holding f by.Bytes) t h = h

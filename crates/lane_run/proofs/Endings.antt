@@ -87,7 +87,7 @@ pub kept_looked : {T : Type 0} (why : Option (Reason T)) (k : Keeper T) → Matc
 kept_looked (Some w) k is fresh = cc
 kept_looked {T} None k is fresh = subst (λ (k : Keeper T). TakesTurns k) fresh is
 
--- settling changes nothing of what an output comes to
+-- settling changes nothing of what an output is judged as
 comes_settled : {T : Type 0} (st en pr : List ℕ → Judged T → Type 0) (ended : Type 0) (output proof : List ℕ) (part now : Reader T)
     → Comes st en pr ended output proof part → Settles part now → Comes st en pr ended output proof now
 comes_settled st en pr ended output proof (reader.Holding f b) now h (inl is) = subst (λ r. Comes st en pr ended output proof r) (sym is) h
@@ -104,7 +104,7 @@ comes_settled st en pr ended output proof reader.Failed now h is = subst (λ r. 
 comes_settled st en pr ended output proof reader.Short now h is = subst (λ r. Comes st en pr ended output proof r) (sym is) h
 comes_settled st en pr ended output proof reader.Wrong now h is = subst (λ r. Comes st en pr ended output proof r) (sym is) h
 
--- what the proof file comes to is what the output comes to that left the end to it
+-- an output that left the end to the proof file is judged as the proof file is
 comes_proved : {T : Type 0} (st en pr pr' : List ℕ → Judged T → Type 0) (ended : Type 0) (output proof : List ℕ) (part : Reader T)
     → ended → en output judged.More → Within pr' pr → Proves pr' proof part → Comes st en pr ended output proof part
 comes_proved st en pr pr' ended output proof (reader.Holding f by.File) e m w (is, h) = (e, m, w proof (judged.Found f) h)
@@ -125,7 +125,7 @@ comes_proved st en pr pr' ended output proof reader.Asking e m w h = absurd h
 comes_proved st en pr pr' ended output proof reader.Unjudged e m w h = absurd h
 comes_proved st en pr pr' ended output proof reader.Wrong e m w h = absurd h
 
--- what a reader comes to once it has finished
+-- the state of a reader that has finished
 pub comes_finished : {T : Type 0} (st en pr pr' : List ℕ → Judged T → Type 0) (ended : Type 0) (output proof : List ℕ) (part between now : Reader T) (A B : Type 0)
     → Comes st en pr ended output [] part → Within pr' pr
     → ((between ≡ part) × (proof ≡ []) × A) ⊎ ((part ≡ reader.Asking) × Proves pr' proof between × B)

@@ -205,7 +205,7 @@ module _ {T : Type 0} (problem : T → ProblemOf) (job : T → JobName) (answer 
         readings = readings_may es.keeper h.keeps;
       }
 
-  -- one that isn't; what its end goes by is what the lane knew
+  -- one that isn't; what its end depends on is what the lane knew
   pub passed_done : (es : List (LaneEvent T)) (terms : JobTerms) (other : Option (ℕ × JobName)) (K : T → Type 0) → terms ≡ terms_at m limit k → other ≡ other_of terms.job → (serves → ⊥)
       → ((f : T) → K f → known f) → ((f : T) → known f → K f) → ((f : T) → known f → (j : ℕ) × IsFor problem job p m j f)
       → Passed problem job answer p may_read K notes notes' es e terms other

@@ -13,9 +13,9 @@ pub mod Joins
 pub mod Lanes
 pub mod Nones
 pub mod Plains
+pub mod PreparedLanes
 pub mod Races
 pub mod Reasons
-pub mod Seats
 pub mod Starts
 pub mod Stops
 mod Waits

@@ -1,4 +1,4 @@
--- What a proof file comes to.
+-- What a proof file is judged as.
 use Rattle.std.proofs.Common.{◌≡◌, inl, inr, ℕ, ◌+◌, false, List, [], Option, Some, None, refl, sym, subst, ◌∙◌, take_all, arith}
 use Rattle.std.specs.Option.{MatchOption, is_some}
 use Rattle.std.specs.Prelude.{IfNone}
@@ -37,7 +37,7 @@ pub failed_unfiled : {T : Type 0} (part : Reader T) → FiledAs Failed part → 
 failed_unfiled part (inl is) = subst (λ r. NotByFile r) (sym is.1) tt
 failed_unfiled part (inr is) = subst (λ r. NotByFile r) (sym is) tt
 
--- what is said by a later moment of the subject is said by an earlier one
+-- what is said by a later moment of the judge is said by an earlier one
 pub says_within : {T : Type 0} (proves proves' : List ℕ → Judged T → Type 0) (bytes : List ℕ) (p : Judged T) → Within proves' proves → Says proves' bytes p → Says proves bytes p
 says_within pr pr' bytes More within h = within bytes More h
 says_within pr pr' bytes (Found f) within h = within bytes (Found f) h
@@ -55,7 +55,7 @@ pub if_none : {X : Type 0} (o : Option X) (P : Type 0) → is_some o ≡ false �
 if_none None P is h = h
 if_none (Some x) P is h = absurd cc
 
--- what a reader that asked for the proof file comes to by the file that was got
+-- the state of a reader that asked for the proof file, by the file that was got
 pub file_asked : {T : Type 0} (proves : List ℕ → Judged T → Type 0) (bay : Option BayOf) (job : JobName) (most : ℕ) (proof : List ℕ) (filed filed' : ℕ) (part : Reader T) (why : Option (Reason T))
     → IsProof bay job most proof → filed ≡ 0 → JudgedFile proves proof filed filed' part why → Asks proves bay job most why reader.Asking part filed'
 file_asked pr bay job most proof filed filed' part why got none (inl (proved, many)) = (proof, omega (arith, none, many), inr (refl, proved, inl got))

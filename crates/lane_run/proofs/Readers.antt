@@ -1,4 +1,4 @@
--- What a reader comes to.
+-- The states of a reader.
 use Rattle.std.proofs.Common.{◌≡◌, ◌⊎◌, inl, inr, ℕ, ◌≤◌, List, length, Option, refl}
 use Rattle.sby_edge.specs.Child.{PipeOf}
 use Rattle.race_core.specs.Parts.{reader_after, reader_from, judged, by_of}
@@ -12,7 +12,7 @@ use Rattle.race_core.specs.declared.part.Reader.TheVariants as reader
 use Rattle.lane_run.specs.Judging.{Within}
 use Rattle.lane_run.specs.Reading.{Comes, HasRead, ReadsOn, ReadSoFar, empty_reads}
 
--- a reader that reads on comes to what its next read is judged as
+-- the state of a reader that reads on is what its next read is judged as
 pub read_on : {T : Type 0} (r : Reader T) (n : ℕ) (p : Judged T) → ReadsOn r → reader_after (event.Read n p) r ≡ judged (by_of n) p
 read_on reader.Fresh n p h = refl
 read_on reader.Reading n p h = refl
@@ -41,7 +41,7 @@ pub record AtRead {T : Type 0} (goes_on : Type 0) (stands stands' ends ends' pro
   pub buffer : size ≡ 65536
   pub unended : empty_reads events ≡ 0
 
--- what it comes to by a later moment of the subject it comes to by an earlier one
+-- what it is judged as by a later moment of the judge it is judged as by an earlier one
 pub comes_within : {T : Type 0} (st st' en en' pr pr' : List ℕ → Judged T → Type 0) (ended : Type 0) (output proof : List ℕ) (part : Reader T)
     → Within st st' → Within en en' → Within pr pr' → Comes st en pr ended output proof part → Comes st' en' pr' ended output proof part
 comes_within st st' en en' pr pr' ended out proof (reader.Holding f by.Bytes) hs he hp h = hs out (Found f) h

@@ -1,4 +1,4 @@
--- What a lane's jobs come to with no thread, cell or order, and where they come to that.
+-- How a lane's jobs end with no thread, cell or order, and where they end so.
 use Rattle.std.specs.Prelude.{◌≡◌, ◌⊎◌, ℕ, ◌-◌, ◌<◌, ◌≤◌, List, IsSomeAnd, None, Some}
 use Rattle.sby_edge.specs.Cause.{CountsOf, Rose}
 use Rattle.sby_edge.specs.Child.{BayOf, up_to}
@@ -15,11 +15,11 @@ use Rattle.race_core.specs.declared.event.Judged.TheVariants as judged
 use Rattle.lane_run.specs.Reading.{IsProof}
 use Rattle.lane_run.specs.declared.task.Limit.{Limit}
 
--- what a whole output comes to; or, where its end leaves that to it, what was got of the proof file
+-- what a whole output is judged as; or, where its end leaves that to it, what was got of the proof file
 abbrev pub ComesTo : {T : Type 0} → (ends proves : List ℕ → Judged T → Type 0) → (List ℕ → Type 0) → List ℕ → Judged T → Type 0
 ComesTo ends proves Got whole p = ends whole p ⊎ (ends whole judged.More × ((proof : List ℕ) × Got proof × proves proof p))
 
--- the end is what an output came to
+-- the end is what an output was judged as
 abbrev pub EndsAs : {T : Type 0} → (Judged T → Type 0) → JobEnd T → Type 0
 EndsAs P (end.Found f) = P (judged.Found f)
 EndsAs P end.Unknown = P judged.Unknown
@@ -33,7 +33,7 @@ EndsAs P (end.CalledOff f) = ⊥
 EndsAs P (end.Stopped t) = ⊥
 EndsAs P end.Memory = ⊥
 
--- Plain's end of a lane's job: not served; or what its script comes to, the bytes up to its stall being the whole output.
+-- Plain's end of a lane's job: not served; or what its script is judged as, the bytes up to its stall being the whole output.
 abbrev pub IsPlain : {T : Type 0} → Type 0 → (ends proves : List ℕ → Judged T → Type 0) → ℕ → BayOf → JobName → JobEnd T → Type 0
 IsPlain serves ends proves most bay job e =
     (serves × EndsAs (ComesTo ends proves (IsProof (Some bay) job most) (up_to (bay.scripts job).stalls (bay.scripts job).bytes)) e)

@@ -1,4 +1,4 @@
--- What a job's reader takes of its child's pipe, and comes to by it.
+-- What a job's reader takes of its child's pipe, and its state after that.
 use Rattle.std.specs.Prelude.{◌≡◌, ◌≢◌, ◌⊎◌, ℕ, zero, suc, ◌+◌, ◌<◌, List, [], ◌∷◌, ◌++◌, length, take, Bool, true, false, Option, None, Some, IsSomeAnd}
 use Rattle.sby_edge.specs.declared.outside.Got.{Got}
 use Rattle.sby_edge.specs.declared.outside.Got.TheVariants.{All, Long}
@@ -115,15 +115,15 @@ abbrev pub NoneLeft : Option PipeOf → Type 0
 NoneLeft None = Unit {0}
 NoneLeft (Some pipe) = pipe.bytes ≡ []
 
--- What an output, with the proof file after it where that was asked, comes to: by its bytes so far; by its close, at its end alone;
+-- What an output, with the proof file after it where that was asked, is judged as: by its bytes so far; by its close, at its end alone;
 -- or by the proof file, where its end leaves it to that.
 abbrev pub ComesBy : {T : Type 0} → (stands ends proves : List ℕ → Judged T → Type 0) → Type 0 → List ℕ → List ℕ → By → Judged T → Type 0
 ComesBy stands ends proves ended output proof by.Bytes p = stands output p
 ComesBy stands ends proves ended output proof by.Close p = ended × ends output p
 ComesBy stands ends proves ended output proof by.File p = ended × ends output judged.More × proves proof p
 
--- What a reader came to is what its output comes to. That it has read on, that a read failed, or that memory ran out, is no word
--- on the output.
+-- A reader's state is what its output is judged as. That it has read on, that a read failed, or that memory ran out, says nothing
+-- of the output.
 abbrev pub Comes : {T : Type 0} → (stands ends proves : List ℕ → Judged T → Type 0) → Type 0 → List ℕ → List ℕ → Reader T → Type 0
 Comes stands ends proves ended output proof (reader.Holding f b) = ComesBy stands ends proves ended output proof b (judged.Found f)
 Comes stands ends proves ended output proof (reader.Found f b won) = ComesBy stands ends proves ended output proof b (judged.Found f)
@@ -170,7 +170,7 @@ HasRead reader.Wrong = ⊥
 abbrev pub EnteredAs : {T : Type 0} → By → Judged T → Reader T → Type 0
 EnteredAs b p part = (part ≡ judged_as b p) ⊎ (part ≡ reader.Short)
 
--- A moment of a reader's work since its pipe and its list were fresh: what it took of the pipe is the subject's output, as many bytes
+-- A moment of a reader's work since its pipe and its list were fresh: what it took of the pipe is the judge's output, as many bytes
 -- as its list tells. A read gave no byte only where none is left.
 pub record ReadSoFar {T : Type 0} (pipe pipe' : Option PipeOf) (output : List ℕ) (events : List (LaneEvent T)) : Type 0 where
   pub took : Took pipe pipe' output
@@ -178,7 +178,7 @@ pub record ReadSoFar {T : Type 0} (pipe pipe' : Option PipeOf) (output : List �
   pub unfiled : bytes_filed events ≡ 0
   pub closed : 0 < empty_reads events → NoneLeft pipe'
 
--- what a proof file comes to
+-- the state that a proof file gives
 abbrev pub Proves : {T : Type 0} → (List ℕ → Judged T → Type 0) → List ℕ → Reader T → Type 0
 Proves proves proof (reader.Holding f b) = (b ≡ by.File) × proves proof (judged.Found f)
 Proves proves proof (reader.Unknown b) = (b ≡ by.File) × proves proof judged.Unknown
@@ -267,7 +267,7 @@ abbrev pub IsProof : Option BayOf → JobName → ℕ → List ℕ → Type 0
 IsProof None job most proof = Unit {0}
 IsProof (Some bay) job most proof = proof ≡ take (most + 1) (bay.scripts job).proof
 
--- what the reader came to isn't by the proof file
+-- the reader's state isn't by the proof file
 abbrev pub NotByFile : {T : Type 0} → Reader T → Type 0
 NotByFile (reader.Holding f b) = b ≢ by.File
 NotByFile (reader.Found f b won) = b ≢ by.File
@@ -281,7 +281,7 @@ NotByFile reader.Reading = Unit {0}
 NotByFile reader.Unjudged = Unit {0}
 NotByFile reader.Wrong = Unit {0}
 
--- the bytes that a reader took of a proof file: those that were got of it; or none, where what it came to isn't by the file
+-- the bytes that a reader took of a proof file: those that were got of it; or none, where its state isn't by the file
 abbrev pub TookProof : {T : Type 0} → Option BayOf → JobName → ℕ → List ℕ → Reader T → Type 0
 TookProof bay job most proof part = IsProof bay job most proof ⊎ ((proof ≡ []) × NotByFile part)
 

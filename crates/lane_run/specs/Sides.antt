@@ -20,8 +20,8 @@ use Rattle.lane_run.specs.Judging.{Says, Within}
 use Rattle.lane_run.specs.Keeping.{EndsChild, HasKill, Keeps, TakesTurns}
 use Rattle.lane_run.specs.Reading.{Comes, HasRead, NoneLeft, Proves, ReadSoFar, Settles, Took, TookProof, bytes_filed, bytes_read, empty_reads}
 
--- A reader's work on a fresh pipe with a fresh list. Its part is that of its list, and what its output comes to; it asks for the proof
--- file only where the subject waits for it; that a read failed only where the pipe counted a fault.
+-- A reader's work on a fresh pipe with a fresh list. Its part is that of its list, and what its output is judged as; it asks for the proof
+-- file only where the judge waits for it; that a read failed only where the pipe counted a fault.
 pub record ReadOut {T : Type 0} (stands ends proves proves' : List ℕ → Judged T → Type 0) (awaits : Type 0) (most faults room : ℕ)
     (pipe pipe' : Option PipeOf) (output : List ℕ) (events : List (LaneEvent T)) (part : Reader T) : Type 0 where
   pub is : part ≡ reader_of (record { reader = events; keeper = [] })
@@ -78,7 +78,7 @@ KilledBy (Some why) pipe killed = Unit {0}
 KilledBy None pipe killed = KilledLast pipe killed
 
 -- A child whose pipe was this ran and is finished: its reader took an output of the pipe, and perhaps a proof file, as many bytes as its
--- list tells; its part is what these come to. The output is at most one buffer longer than the longest that comes to nothing. The child was
+-- list tells; its part is what these are judged as. The output is at most one buffer longer than the longest that decides nothing. The child was
 -- killed when its pipe had given all that it gave, or its keeper's list has a kill.
 abbrev pub RanFrom : {T : Type 0} → (stands ends proves : List ℕ → Judged T → Type 0) → JobName → ℕ → ℕ → Option BayOf → Option BayOf → Option PipeOf → List (LaneEvent T) → List (LaneEvent T) → Type 0
 RanFrom stands ends proves job most most_output bay bay' pipe events kept =
@@ -92,7 +92,7 @@ RanFrom stands ends proves job most most_output bay bay' pipe events kept =
     × (0 < empty_reads events → NoneLeft now)
     × (length output ≤ most_output + 2 ^ 16)
 
--- A judging of a proof file went on: it says what the whole file, which begins with what was taken before, comes to; or it was asked to stop,
+-- A judging of a proof file went on: it says what the whole file, which begins with what was taken before, is judged as; or it was asked to stop,
 -- and what was taken and what is left are the same file.
 abbrev pub JudgedOn : {T : Type 0} → (proves proves' : List ℕ → Judged T → Type 0) → Type 0 → (whole whole' : List ℕ) → Option (Judged T) → Type 0
 JudgedOn proves proves' proving whole whole' said =

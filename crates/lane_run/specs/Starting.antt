@@ -69,9 +69,9 @@ abbrev pub IsFrontOf : Option BayOf → JobName → List ℕ → List ℕ → Ty
 IsFrontOf None job output rest = Unit {0}
 IsFrontOf (Some bay) job output rest = IsFront (bay.scripts job) output rest
 
--- A reader took an output, a front of the script's, and perhaps a proof file, as many bytes as its list tells, and came to what these
--- come to. Nothing being left, the output ended; a read gave no byte only then. The output is at most one buffer longer than the longest that
--- comes to nothing.
+-- A reader took an output, a front of the script's, and perhaps a proof file, as many bytes as its list tells, and its state is what these
+-- are judged as. Nothing being left, the output ended; a read gave no byte only then. The output is at most one buffer longer than the longest
+-- that decides nothing.
 pub record ReadsScript {T : Type 0} (stands ends proves : List ℕ → Judged T → Type 0) (bay : Option BayOf) (job : JobName) (most most_output : ℕ) (events : List (LaneEvent T)) : Type 0 where
   pub output : List ℕ
   pub rest : List ℕ

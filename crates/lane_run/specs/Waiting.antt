@@ -1,4 +1,4 @@
--- What a lane's wait for a place comes to.
+-- How a lane's wait for a place ends.
 use Rattle.std.specs.Prelude.{◌≡◌, ◌≢◌, ℕ, ◌≤◌, Option, None, Some}
 use Rattle.race_core.specs.Ends.{EndIs}
 use Rattle.race_core.specs.Parts.{RightKeeper, Terms}

@@ -78,7 +78,7 @@ fn found_end<T: Drop>(part: Reader<T>, kept: Keeper<T>, is_failed: bool) -> JobE
     }
 }
 
-// The end of a job, by what its reader and its keeper came to, and whether a kill or the reap failed.
+// Returns the end of a job, by the last states of its reader and its keeper, and whether a kill or the reap failed.
 pub(crate) fn job_end<T: Drop>(part: Reader<T>, kept: Keeper<T>, is_failed: bool) -> JobEnd<T>
     requires over { IsOver part kept }
     requires kept { HasKept kept }

@@ -19,12 +19,12 @@ ghost use Rattle.race_core.specs.declared.part.Reader.TheVariants as reader;
 ghost use Rattle.race_core.specs.declared.part.Reason.TheVariants as reason;
 ghost use Rattle.sby_edge.specs.Cause.{Rose};
 
+use crate::child_judge::{ChildJudge, ForJob};
 use crate::ending::job_end;
 use crate::keeper::Watch;
 use crate::life::{Lived, live};
 use crate::over::{Asked, settle};
 use crate::proof::{Filed, read_proof};
-use crate::subject::{Asks, Subject};
 use lane_berth::Berth;
 use race_cells::Notes;
 use race_core::{EventList, JobEnd, Keeper, Reader, Reason};
@@ -36,7 +36,7 @@ use std::thread::Threads;
 
 /// What a child's life leaves to its lane: how the job ends, and the events of its reader.
 #[derive(Drop)]
-pub struct Ran<T> {
+pub struct JobRun<T> {
     pub end: JobEnd<T>,
     pub events: EventList<T>,
 }
@@ -54,8 +54,8 @@ fn kept<T: Drop>(why: Option<Reason<T>>) -> Keeper<T>
 fn ask_proof<
     R: Threads + Wait + Sync,
     L: Launch,
-    S: Subject<T> + Drop,
-    J: Asks<T> + Sync,
+    S: ChildJudge<T> + Drop,
+    J: ForJob<T> + Sync,
     T: Settled + Drop + Send + Sync,
     C: Clock,
 >(
@@ -65,7 +65,7 @@ fn ask_proof<
     asked: &Asked<'_>,
     watch: &Watch<'_, J, T, C>,
     came: Filed<T>,
-    subject: S,
+    judge: S,
     notes: &mut Notes<T>,
     events: &mut EventList<T>,
     keeper_events: &mut EventList<T>,
@@ -73,7 +73,7 @@ fn ask_proof<
     requires part { came.part ≡ reader_from reader.Fresh events.old.events }
     requires has_read { HasRead came.part }
     requires room { (came.part ≡ reader.Short) ⊎ (1 ≤ events.old.room) }
-    requires awaits { came.part ≡ reader.Asking → S.awaits subject }
+    requires awaits { came.part ≡ reader.Asking → S.awaits judge }
     requires unfiled { bytes_filed events.old.events ≡ 0 }
     requires cell { watch.now.terms.now.cell < length watch.now.cells.now }
     requires other { IfSome watch.now.other (λ o. o.0 < length watch.now.cells.now) }
@@ -84,7 +84,7 @@ fn ask_proof<
     ensures part { result.part ≡ reader_from reader.Fresh events.new.events }
     ensures over { IsOver result.part (kept_by result.why) ⊎ IsHolding result.part }
     ensures room { IsHolding result.part → 1 ≤ events.new.room }
-    ensures asks { Asks (S.proves subject) (L.told berth.old.bay) asked.now.job asked.now.most result.why came.part result.part (bytes_filed events.new.events) }
+    ensures asks { Asks (S.proves judge) (L.told berth.old.bay) asked.now.job asked.now.most result.why came.part result.part (bytes_filed events.new.events) }
     ensures read { bytes_read events.new.events ≡ bytes_read events.old.events }
     ensures empty { empty_reads events.new.events ≡ empty_reads events.old.events }
     ensures failed { result.part ≡ reader.Failed → (came.part ≡ reader.Failed) ⊎ Rose (L.read_faults berth.old.bay) (L.read_faults berth.new.bay) }
@@ -99,7 +99,7 @@ fn ask_proof<
     ensures still { IfSome came.why (λ _. keeper_events.new.events ≡ keeper_events.old.events) }
     ensures fault { kept_by result.why ≡ keeper.Killed reason.Fault → kept_by came.why ≡ keeper.Killed reason.Fault }
     ensures place { place_from Away keeper_events.new.events ≡ place_from Away keeper_events.old.events }
-    ensures keeps { Keeps (IsOfCell T.problem T.job (J.problem watch.now.asks.now) watch.now.terms.now watch.now.other) (C.may_read watch.now.clock.now) notes.old notes.new keeper_events.old.events keeper_events.new.events }
+    ensures keeps { Keeps (IsOfCell T.problem T.job (J.problem watch.now.problem.now) watch.now.terms.now watch.now.other) (C.may_read watch.now.clock.now) notes.old notes.new keeper_events.old.events keeper_events.new.events }
 {
     match (came.part, came.why) {
         (Reader::Asking, None) => read_proof(
@@ -108,7 +108,7 @@ fn ask_proof<
             berth,
             asked,
             watch,
-            subject,
+            judge,
             notes,
             events,
             keeper_events,
@@ -121,8 +121,8 @@ fn ask_proof<
 fn conclude<
     R: Threads + Wait + Sync,
     L: Launch,
-    S: Subject<T> + Drop,
-    J: Asks<T> + Sync,
+    S: ChildJudge<T> + Drop,
+    J: ForJob<T> + Sync,
     T: Settled + Drop + Send + Sync,
     C: Clock,
 >(
@@ -134,11 +134,11 @@ fn conclude<
     lived: Lived<S, T>,
     notes: &mut Notes<T>,
     keeper_events: &mut EventList<T>,
-) -> Ran<T>
+) -> JobRun<T>
     requires part { lived.part ≡ reader_from reader.Fresh lived.events.events }
     requires has_read { HasRead lived.part }
     requires room { (lived.part ≡ reader.Short) ⊎ (1 ≤ lived.events.room) }
-    requires awaits { lived.part ≡ reader.Asking → S.awaits lived.subject }
+    requires awaits { lived.part ≡ reader.Asking → S.awaits lived.judge }
     requires unfiled { bytes_filed lived.events.events ≡ 0 }
     requires cell { watch.now.terms.now.cell < length watch.now.cells.now }
     requires other { IfSome watch.now.other (λ o. o.0 < length watch.now.cells.now) }
@@ -149,7 +149,7 @@ fn conclude<
     ensures end { EndIs (terms_of T.job T.answer watch.now.terms.now) (λ _. ⊥) (reader_from reader.Fresh result.events.events) (keeper_from (terms_of T.job T.answer watch.now.terms.now) keeper.Fresh keeper_events.new.events) result.end }
     ensures right { RightReader (reader_from reader.Fresh result.events.events) × RightKeeper (keeper_from (terms_of T.job T.answer watch.now.terms.now) keeper.Fresh keeper_events.new.events) }
     ensures looked { keeper_from (terms_of T.job T.answer watch.now.terms.now) keeper.Fresh keeper_events.new.events ≢ keeper.Fresh }
-    ensures finishes { (why : Option (Reason T)) × Finishes (S.proves lived.subject) (L.told berth.old.bay) asked.now.job asked.now.most why lived.part (reader_from reader.Fresh result.events.events) (bytes_filed result.events.events) }
+    ensures finishes { (why : Option (Reason T)) × Finishes (S.proves lived.judge) (L.told berth.old.bay) asked.now.job asked.now.most why lived.part (reader_from reader.Fresh result.events.events) (bytes_filed result.events.events) }
     ensures read { bytes_read result.events.events ≡ bytes_read lived.events.events }
     ensures empty { empty_reads result.events.events ≡ empty_reads lived.events.events }
     ensures won { IfWon (reader_from reader.Fresh result.events.events) (λ f. known_at notes.new watch.now.terms.now.cell ≡ Some f) }
@@ -163,10 +163,10 @@ fn conclude<
     ensures reads { L.read_faults berth.old.bay ≤ L.read_faults berth.new.bay }
     ensures still { IfSome lived.why (λ _. keeper_events.new.events ≡ keeper_events.old.events) }
     ensures place { place_from Away keeper_events.new.events ≡ place_from Away keeper_events.old.events }
-    ensures keeps { Keeps (IsOfCell T.problem T.job (J.problem watch.now.asks.now) watch.now.terms.now watch.now.other) (C.may_read watch.now.clock.now) notes.old notes.new keeper_events.old.events keeper_events.new.events }
+    ensures keeps { Keeps (IsOfCell T.problem T.job (J.problem watch.now.problem.now) watch.now.terms.now watch.now.other) (C.may_read watch.now.clock.now) notes.old notes.new keeper_events.old.events keeper_events.new.events }
 {
     let Lived {
-        subject,
+        judge,
         mut events,
         part,
         why,
@@ -180,7 +180,7 @@ fn conclude<
         asked,
         watch,
         came,
-        subject,
+        judge,
         notes,
         &mut events,
         keeper_events,
@@ -188,7 +188,7 @@ fn conclude<
     let cells = watch.cells;
     let place = watch.terms.cell;
     let part = settle(alloc, cells, place, part, notes, &mut events);
-    Ran {
+    JobRun {
         end: job_end(part, kept(why), is_failed),
         events,
     }
@@ -200,8 +200,8 @@ fn conclude<
 pub fn run_started<
     R: Threads + Wait + Sync,
     L: Launch,
-    S: Subject<T> + Drop,
-    J: Asks<T> + Sync,
+    S: ChildJudge<T> + Drop,
+    J: ForJob<T> + Sync,
     T: Settled + Drop + Send + Sync,
     C: Clock,
 >(
@@ -211,14 +211,14 @@ pub fn run_started<
     child: (L::Pipe, L::Hold),
     asked: &Asked<'_>,
     watch: &Watch<'_, J, T, C>,
-    subject: S,
+    judge: S,
     notes: &mut Notes<T>,
     reader_events: EventList<T>,
     keeper_events: &mut EventList<T>,
-) -> Ran<T>
-    requires fresh { (S.taken subject ≡ []) × (reader_events.events ≡ []) }
+) -> JobRun<T>
+    requires fresh { (S.taken judge ≡ []) × (reader_events.events ≡ []) }
     requires reader_room { 1 ≤ reader_events.room }
-    requires goes_on { S.goes_on subject }
+    requires goes_on { S.goes_on judge }
     requires alive { L.Hold.killed child.1 ≡ None }
     requires cell { watch.now.terms.now.cell < length watch.now.cells.now }
     requires other { IfSome watch.now.other (λ o. o.0 < length watch.now.cells.now) }
@@ -232,9 +232,9 @@ pub fn run_started<
     ensures looked { keeper_from (terms_of T.job T.answer watch.now.terms.now) keeper.Fresh keeper_events.new.events ≢ keeper.Fresh }
     ensures place { place_from Away keeper_events.new.events ≡ Away }
     ensures same { berth.new ≡ record berth.old { bay = berth.new.bay; holds = false; stands = false } }
-    ensures keeps { Keeps (IsOfCell T.problem T.job (J.problem watch.now.asks.now) watch.now.terms.now watch.now.other) (C.may_read watch.now.clock.now) notes.old notes.new keeper_events.old.events keeper_events.new.events }
+    ensures keeps { Keeps (IsOfCell T.problem T.job (J.problem watch.now.problem.now) watch.now.terms.now watch.now.other) (C.may_read watch.now.clock.now) notes.old notes.new keeper_events.old.events keeper_events.new.events }
     ensures won { IfWon (reader_from reader.Fresh result.events.events) (λ f. known_at notes.new watch.now.terms.now.cell ≡ Some f) }
-    ensures ran { RanFrom (S.stands subject) (S.ends subject) (S.proves subject) asked.now.job asked.now.most (S.most subject) (L.told berth.old.bay) (L.told berth.new.bay)
+    ensures ran { RanFrom (S.stands judge) (S.ends judge) (S.proves judge) asked.now.job asked.now.most (S.most judge) (L.told berth.old.bay) (L.told berth.new.bay)
         (L.Pipe.told child.0) result.events.events keeper_events.new.events }
     ensures started { HasRun result.end }
     ensures read_failed { result.end ≡ end.ReadFailed → Rose (L.read_faults berth.old.bay) (L.read_faults berth.new.bay) }
@@ -249,7 +249,7 @@ pub fn run_started<
         berth,
         child,
         watch,
-        subject,
+        judge,
         notes,
         reader_events,
         keeper_events,

@@ -10,8 +10,8 @@ ghost use Rattle.race_core.specs.declared.part.Keeper.TheVariants as keeper;
 ghost use Rattle.race_core.specs.declared.part.Place.TheVariants.{Away};
 ghost use Rattle.race_core.specs.declared.part.Reason.TheVariants as reason;
 
+use crate::child_judge::ForJob;
 use crate::entering::enter;
-use crate::subject::Asks;
 use race_cells::{Cells, Notes};
 use race_core::{EventList, JobTerms, LaneEvent, Polled, Reason};
 use sby_edge::{Clock, Hold};
@@ -24,7 +24,7 @@ use std::sync::atomic::{AtomicBool, Ordering};
 #[derive(Drop)]
 pub struct Watch<'a, J, T, C> {
     /// The problem.
-    pub asks: &'a J,
+    pub problem: &'a J,
     pub cells: &'a Cells<T>,
     pub clock: &'a C,
     pub terms: &'a JobTerms,
@@ -37,7 +37,7 @@ const ROOM: usize = 4;
 
 // Two copies of what the cell at a place has, where that makes the job needless: one for the list, one for the end.
 #[tactic(auto, using(crate::proofs::Keepers::learns_remember, crate::proofs::Keepers::learns_known))]
-fn needless_at<J: Asks<T>, T: Settled + Drop, C: Clock>(
+fn needless_at<J: ForJob<T>, T: Settled + Drop, C: Clock>(
     watch: &Watch<'_, J, T, C>,
     place: u32,
     job: JobName,
@@ -47,10 +47,10 @@ fn needless_at<J: Asks<T>, T: Settled + Drop, C: Clock>(
     requires notes { AreNotesOf watch.now.cells.now notes.old }
     ensures notes { Remember notes.old notes.new }
     ensures found { IfSome result (λ copies. IfOk copies (λ c. (c.0 ≡ c.1) × (known_at notes.new place ≡ Some c.0)
-        × (T.problem c.0 ≡ J.problem watch.now.asks.now) × (T.job c.0 ≡ job) × (is_needless T.job T.answer watch.now.terms.now c.0 ≡ true))) }
+        × (T.problem c.0 ≡ J.problem watch.now.problem.now) × (T.job c.0 ≡ job) × (is_needless T.job T.answer watch.now.terms.now c.0 ≡ true))) }
 {
     let value = watch.cells.look(place, notes)?;
-    if !watch.asks.is_for(value, job) || !watch.terms.is_needless(value) {
+    if !watch.problem.is_for(value, job) || !watch.terms.is_needless(value) {
         return None;
     }
     Some(twice(value))
@@ -65,7 +65,7 @@ pub(crate) fn twice<T: Settled + Drop>(value: &T) -> Result<(T, T), AllocError>
 }
 
 // A look that makes the job needless, or for whose copies memory runs out.
-fn enter_needless<J: Asks<T>, T: Settled + Drop, C: Clock>(
+fn enter_needless<J: ForJob<T>, T: Settled + Drop, C: Clock>(
     watch: &Watch<'_, J, T, C>,
     place: u32,
     copies: Result<(T, T), AllocError>,
@@ -74,13 +74,13 @@ fn enter_needless<J: Asks<T>, T: Settled + Drop, C: Clock>(
 ) -> Reason<T>
     requires room { 1 ≤ events.old.room }
     requires needless { IfOk copies (λ c. (c.0 ≡ c.1) × (is_needless T.job T.answer watch.now.terms.now c.0 ≡ true)) }
-    requires found { IfOk copies (λ c. (known_at notes.now place ≡ Some c.0) × IsOfCell T.problem T.job (J.problem watch.now.asks.now) watch.now.terms.now watch.now.other place c.0) }
+    requires found { IfOk copies (λ c. (known_at notes.now place ≡ Some c.0) × IsOfCell T.problem T.job (J.problem watch.now.problem.now) watch.now.terms.now watch.now.other place c.0) }
     requires turns { TakesTurns (keeper_from (terms_of T.job T.answer watch.now.terms.now) keeper.Fresh events.old.events) }
     requires turning { (place ≡ watch.now.terms.now.cell) ⊎ (keeper_from (terms_of T.job T.answer watch.now.terms.now) keeper.Fresh events.old.events ≡ keeper.Turning) }
     ensures due { keeper_from (terms_of T.job T.answer watch.now.terms.now) keeper.Fresh events.new.events ≡ keeper.Due result }
     ensures room { events.new.room + 1 ≡ events.old.room }
     ensures place { place_from Away events.new.events ≡ place_from Away events.old.events }
-    ensures keeps { Keeps (IsOfCell T.problem T.job (J.problem watch.now.asks.now) watch.now.terms.now watch.now.other) (C.may_read watch.now.clock.now) notes.now notes.now events.old.events events.new.events }
+    ensures keeps { Keeps (IsOfCell T.problem T.job (J.problem watch.now.problem.now) watch.now.terms.now watch.now.other) (C.may_read watch.now.clock.now) notes.now notes.now events.old.events events.new.events }
     ensures reason { (result ≢ reason.Fault) × EndsChild result }
 {
     match copies {
@@ -102,7 +102,7 @@ fn enter_needless<J: Asks<T>, T: Settled + Drop, C: Clock>(
 }
 
 // The looks of a turn: at the job's own cell, then at the other one.
-fn look<J: Asks<T>, T: Settled + Drop, C: Clock>(
+fn look<J: ForJob<T>, T: Settled + Drop, C: Clock>(
     watch: &Watch<'_, J, T, C>,
     notes: &mut Notes<T>,
     events: &mut EventList<T>,
@@ -115,7 +115,7 @@ fn look<J: Asks<T>, T: Settled + Drop, C: Clock>(
     ensures due { MatchOption result (events.new ≡ events.old) (λ why. keeper_from (terms_of T.job T.answer watch.now.terms.now) keeper.Fresh events.new.events ≡ keeper.Due why) }
     ensures room { events.old.room ≤ events.new.room + 2 }
     ensures place { place_from Away events.new.events ≡ place_from Away events.old.events }
-    ensures keeps { Keeps (IsOfCell T.problem T.job (J.problem watch.now.asks.now) watch.now.terms.now watch.now.other) (C.may_read watch.now.clock.now) notes.old notes.new events.old.events events.new.events }
+    ensures keeps { Keeps (IsOfCell T.problem T.job (J.problem watch.now.problem.now) watch.now.terms.now watch.now.other) (C.may_read watch.now.clock.now) notes.old notes.new events.old.events events.new.events }
     ensures reason { IfSome result (λ why. (why ≢ reason.Fault) × EndsChild why) }
 {
     let terms = watch.terms;
@@ -138,7 +138,7 @@ fn look<J: Asks<T>, T: Settled + Drop, C: Clock>(
 }
 
 // A reading of the clock, where there is a limit.
-fn read_clock<J: Asks<T>, T: Settled + Drop, C: Clock>(
+fn read_clock<J: ForJob<T>, T: Settled + Drop, C: Clock>(
     watch: &Watch<'_, J, T, C>,
     notes: &Notes<T>,
     events: &mut EventList<T>,
@@ -148,7 +148,7 @@ fn read_clock<J: Asks<T>, T: Settled + Drop, C: Clock>(
     ensures due { MatchOption result (events.new ≡ events.old) (λ why. keeper_from (terms_of T.job T.answer watch.now.terms.now) keeper.Fresh events.new.events ≡ keeper.Due why) }
     ensures room { events.old.room ≤ events.new.room + 1 }
     ensures place { place_from Away events.new.events ≡ place_from Away events.old.events }
-    ensures keeps { Keeps (IsOfCell T.problem T.job (J.problem watch.now.asks.now) watch.now.terms.now watch.now.other) (C.may_read watch.now.clock.now) notes.now notes.now events.old.events events.new.events }
+    ensures keeps { Keeps (IsOfCell T.problem T.job (J.problem watch.now.problem.now) watch.now.terms.now watch.now.other) (C.may_read watch.now.clock.now) notes.now notes.now events.old.events events.new.events }
     ensures reason { IfSome result (λ why. (why ≢ reason.Fault) × EndsChild why) }
 {
     if watch.terms.limit.is_none() {
@@ -162,8 +162,8 @@ fn read_clock<J: Asks<T>, T: Settled + Drop, C: Clock>(
     Some(Reason::Limit(reading))
 }
 
-// An entry that shows no finding and has no reading.
-pub(crate) fn enter_plain<J: Asks<T>, T: Settled + Drop, C: Clock>(
+// Adds an entry that shows no finding and has no reading.
+pub(crate) fn enter_plain<J: ForJob<T>, T: Settled + Drop, C: Clock>(
     watch: &Watch<'_, J, T, C>,
     notes: &Notes<T>,
     events: &mut EventList<T>,
@@ -175,13 +175,13 @@ pub(crate) fn enter_plain<J: Asks<T>, T: Settled + Drop, C: Clock>(
     ensures part { keeper_from (terms_of T.job T.answer watch.now.terms.now) keeper.Fresh events.new.events ≡ keeper_after (terms_of T.job T.answer watch.now.terms.now) entry (keeper_from (terms_of T.job T.answer watch.now.terms.now) keeper.Fresh events.old.events) }
     ensures place { place_from Away events.new.events ≡ place_after entry (place_from Away events.old.events) }
     ensures told { IsChildStart entry → HasChildStart events.new.events }
-    ensures keeps { Keeps (IsOfCell T.problem T.job (J.problem watch.now.asks.now) watch.now.terms.now watch.now.other) (C.may_read watch.now.clock.now) notes.now notes.now events.old.events events.new.events }
+    ensures keeps { Keeps (IsOfCell T.problem T.job (J.problem watch.now.problem.now) watch.now.terms.now watch.now.other) (C.may_read watch.now.clock.now) notes.now notes.now events.old.events events.new.events }
 {
     enter(events, entry);
 }
 
 // A poll. That the child ended is entered once.
-fn poll<J: Asks<T>, T: Settled + Drop, C: Clock, H: Hold>(
+fn poll<J: ForJob<T>, T: Settled + Drop, C: Clock, H: Hold>(
     watch: &Watch<'_, J, T, C>,
     hold: &mut H,
     has_ended: &mut bool,
@@ -193,7 +193,7 @@ fn poll<J: Asks<T>, T: Settled + Drop, C: Clock, H: Hold>(
     ensures due { MatchOption result (TakesTurns (keeper_from (terms_of T.job T.answer watch.now.terms.now) keeper.Fresh events.new.events)) (λ why. keeper_from (terms_of T.job T.answer watch.now.terms.now) keeper.Fresh events.new.events ≡ keeper.Due why) }
     ensures room { events.old.room ≤ events.new.room + 1 }
     ensures place { place_from Away events.new.events ≡ place_from Away events.old.events }
-    ensures keeps { Keeps (IsOfCell T.problem T.job (J.problem watch.now.asks.now) watch.now.terms.now watch.now.other) (C.may_read watch.now.clock.now) notes.now notes.now events.old.events events.new.events }
+    ensures keeps { Keeps (IsOfCell T.problem T.job (J.problem watch.now.problem.now) watch.now.terms.now watch.now.other) (C.may_read watch.now.clock.now) notes.now notes.now events.old.events events.new.events }
     ensures hold { (H.killed hold.new ≡ H.killed hold.old) × (H.is_reaped hold.new ≡ H.is_reaped hold.old) × (H.faults hold.old ≤ H.faults hold.new) }
     ensures fault { IfSome result (λ why. EndsChild why × (why ≡ reason.Fault → 0 < H.faults hold.new)) }
 {
@@ -212,7 +212,7 @@ fn poll<J: Asks<T>, T: Settled + Drop, C: Clock, H: Hold>(
 }
 
 // One turn beside no child: the looks, and a reading of the clock. A reason to end the job is the last of it.
-pub(crate) fn watch_turn<J: Asks<T>, T: Settled + Drop, C: Clock>(
+pub(crate) fn watch_turn<J: ForJob<T>, T: Settled + Drop, C: Clock>(
     watch: &Watch<'_, J, T, C>,
     notes: &mut Notes<T>,
     events: &mut EventList<T>,
@@ -225,7 +225,7 @@ pub(crate) fn watch_turn<J: Asks<T>, T: Settled + Drop, C: Clock>(
     ensures due { MatchOption result (TakesTurns (keeper_from (terms_of T.job T.answer watch.now.terms.now) keeper.Fresh events.new.events)) (λ why. keeper_from (terms_of T.job T.answer watch.now.terms.now) keeper.Fresh events.new.events ≡ keeper.Due why) }
     ensures room { MatchOption result (events.old.room ≤ events.new.room + 1) (λ why. events.old.room ≤ events.new.room + 2) }
     ensures place { place_from Away events.new.events ≡ place_from Away events.old.events }
-    ensures keeps { Keeps (IsOfCell T.problem T.job (J.problem watch.now.asks.now) watch.now.terms.now watch.now.other) (C.may_read watch.now.clock.now) notes.old notes.new events.old.events events.new.events }
+    ensures keeps { Keeps (IsOfCell T.problem T.job (J.problem watch.now.problem.now) watch.now.terms.now watch.now.other) (C.may_read watch.now.clock.now) notes.old notes.new events.old.events events.new.events }
     ensures reason { IfSome result (λ why. (why ≢ reason.Fault) × EndsChild why) }
 {
     if let Some(why) = look(watch, notes, events) {
@@ -240,7 +240,7 @@ pub(crate) fn watch_turn<J: Asks<T>, T: Settled + Drop, C: Clock>(
 
 // One turn: a poll, the looks, and a reading of the clock. A reason to end the child is the last of it. Room for `reserved` entries is left
 // after that of the kill.
-fn turn<J: Asks<T>, T: Settled + Drop, C: Clock, H: Hold>(
+fn turn<J: ForJob<T>, T: Settled + Drop, C: Clock, H: Hold>(
     watch: &Watch<'_, J, T, C>,
     hold: &mut H,
     has_ended: &mut bool,
@@ -257,7 +257,7 @@ fn turn<J: Asks<T>, T: Settled + Drop, C: Clock, H: Hold>(
     ensures due { MatchOption result (TakesTurns (keeper_from (terms_of T.job T.answer watch.now.terms.now) keeper.Fresh events.new.events)) (λ why. keeper_from (terms_of T.job T.answer watch.now.terms.now) keeper.Fresh events.new.events ≡ keeper.Due why) }
     ensures room { MatchOption result (reserved + 2 ≤ events.new.room) (λ why. reserved + 1 ≤ events.new.room) }
     ensures place { place_from Away events.new.events ≡ place_from Away events.old.events }
-    ensures keeps { Keeps (IsOfCell T.problem T.job (J.problem watch.now.asks.now) watch.now.terms.now watch.now.other) (C.may_read watch.now.clock.now) notes.old notes.new events.old.events events.new.events }
+    ensures keeps { Keeps (IsOfCell T.problem T.job (J.problem watch.now.problem.now) watch.now.terms.now watch.now.other) (C.may_read watch.now.clock.now) notes.old notes.new events.old.events events.new.events }
     ensures hold { (H.killed hold.new ≡ H.killed hold.old) × (H.is_reaped hold.new ≡ H.is_reaped hold.old) × (H.faults hold.old ≤ H.faults hold.new) }
     ensures fault { IfSome result (λ why. EndsChild why × (why ≡ reason.Fault → 0 < H.faults hold.new)) }
 {
@@ -271,7 +271,7 @@ fn turn<J: Asks<T>, T: Settled + Drop, C: Clock, H: Hold>(
     watch_turn(watch, notes, events)
 }
 
-/// What a keeper came to: why it killed the child, if it did, and whether the kill failed.
+/// The result of a keeper: why it killed the child, if it did, and whether the kill failed.
 #[derive(Drop)]
 pub(crate) struct Kept<T> {
     pub(crate) why: Option<Reason<T>>,
@@ -279,7 +279,7 @@ pub(crate) struct Kept<T> {
 }
 
 // The kill, for a reason.
-fn kill<J: Asks<T>, T: Settled + Drop, C: Clock, H: Hold>(
+fn kill<J: ForJob<T>, T: Settled + Drop, C: Clock, H: Hold>(
     watch: &Watch<'_, J, T, C>,
     hold: &mut H,
     notes: &Notes<T>,
@@ -292,7 +292,7 @@ fn kill<J: Asks<T>, T: Settled + Drop, C: Clock, H: Hold>(
     ensures room { events.new.room + 1 ≡ events.old.room }
     ensures killed { keeper_from (terms_of T.job T.answer watch.now.terms.now) keeper.Fresh events.new.events ≡ keeper.Killed why }
     ensures place { place_from Away events.new.events ≡ place_from Away events.old.events }
-    ensures keeps { Keeps (IsOfCell T.problem T.job (J.problem watch.now.asks.now) watch.now.terms.now watch.now.other) (C.may_read watch.now.clock.now) notes.now notes.now events.old.events events.new.events }
+    ensures keeps { Keeps (IsOfCell T.problem T.job (J.problem watch.now.problem.now) watch.now.terms.now watch.now.other) (C.may_read watch.now.clock.now) notes.now notes.now events.old.events events.new.events }
     ensures hold { (H.is_reaped hold.new ≡ H.is_reaped hold.old) × (H.faults hold.old ≤ H.faults hold.new) }
     ensures fault { result.is_failed ≡ true → 0 < H.faults hold.new }
 {
@@ -314,7 +314,7 @@ pub(crate) fn pause_after(paused: u32) -> u32
 }
 
 // Takes turns until the reader has ended, or there is a reason to end the child. Room for `reserved` entries is left after that of the kill.
-pub(crate) fn keep<R: Wait, J: Asks<T>, T: Settled + Drop, C: Clock, H: Hold>(
+pub(crate) fn keep<R: Wait, J: ForJob<T>, T: Settled + Drop, C: Clock, H: Hold>(
     rt: &R,
     watch: &Watch<'_, J, T, C>,
     reader_ended: &AtomicBool,
@@ -331,7 +331,7 @@ pub(crate) fn keep<R: Wait, J: Asks<T>, T: Settled + Drop, C: Clock, H: Hold>(
     requires turns { TakesTurns (keeper_from (terms_of T.job T.answer watch.now.terms.now) keeper.Fresh events.old.events) }
     ensures kept { MatchOption result.why (TakesTurns (keeper_from (terms_of T.job T.answer watch.now.terms.now) keeper.Fresh events.new.events)) (λ why. keeper_from (terms_of T.job T.answer watch.now.terms.now) keeper.Fresh events.new.events ≡ keeper.Killed why) }
     ensures place { place_from Away events.new.events ≡ place_from Away events.old.events }
-    ensures keeps { Keeps (IsOfCell T.problem T.job (J.problem watch.now.asks.now) watch.now.terms.now watch.now.other) (C.may_read watch.now.clock.now) notes.old notes.new events.old.events events.new.events }
+    ensures keeps { Keeps (IsOfCell T.problem T.job (J.problem watch.now.problem.now) watch.now.terms.now watch.now.other) (C.may_read watch.now.clock.now) notes.old notes.new events.old.events events.new.events }
     ensures killed { IfNone result.why (H.killed hold.new ≡ H.killed hold.old) }
     ensures hold { (H.is_reaped hold.new ≡ H.is_reaped hold.old) × (H.faults hold.old ≤ H.faults hold.new) }
     ensures fault { IfSome result.why (λ why. EndsChild why × (why ≡ reason.Fault → 0 < H.faults hold.new)) }

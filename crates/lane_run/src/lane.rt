@@ -21,7 +21,7 @@ ghost use Rattle.sby_edge.specs.Child.{StartOf};
 
 use crate::passing::pass_job;
 use crate::task::{Task, other_cell};
-use crate::{Makes, Ran, Watch, run_child};
+use crate::{JobRun, LaneFactory, Watch, run_child};
 use lane_berth::Berth;
 use race_cells::Notes;
 use race_core::{EventList, JobEnd, Report, job_at};
@@ -35,7 +35,7 @@ use std::thread::Threads;
 fn do_job<
     R: Threads + Wait + Sync,
     L: Launch,
-    M: Makes<T> + Sync,
+    M: LaneFactory<T> + Sync,
     T: Settled + Drop + Send + Sync,
     C: Clock,
 >(
@@ -48,15 +48,15 @@ fn do_job<
     notes: &mut Notes<T>,
     reader: EventList<T>,
     keeper: &mut EventList<T>,
-) -> Ran<T>
+) -> JobRun<T>
     requires place { (place < length task.now.cells.now) × (place < report.now.jobs) }
     requires notes { AreNotesOf task.now.cells.now notes.old }
     requires idle { IsIdle berth.old }
     requires fresh { (reader.events ≡ []) × (keeper.old.events ≡ []) }
     requires room { (1 ≤ reader.room) × (4 ≤ keeper.old.room) }
-    requires so_far { LaneSoFar (IsFor T.problem T.job (M.problem task.now.makes.now) task.now.mode) (λ k. M.is_served task.now.makes.now report.now.lane (name_at task.now.mode k))
+    requires so_far { LaneSoFar (IsFor T.problem T.job (M.problem task.now.factory.now) task.now.mode) (λ k. M.is_served task.now.factory.now report.now.lane (name_at task.now.mode k))
         (λ k. terms_of T.job T.answer (terms_at task.now.mode task.now.limit k)) (C.may_read task.now.clock.now) place notes.old report.now }
-    ensures done { JobDone (IsFor T.problem T.job (M.problem task.now.makes.now) task.now.mode) (M.is_served task.now.makes.now report.now.lane (name_at task.now.mode place))
+    ensures done { JobDone (IsFor T.problem T.job (M.problem task.now.factory.now) task.now.mode) (M.is_served task.now.factory.now report.now.lane (name_at task.now.mode place))
         (terms_of T.job T.answer (terms_at task.now.mode task.now.limit place)) (KnewBy (events_at report.now) place) (C.may_read task.now.clock.now) place notes.new
         (record { reader = result.events.events; keeper = keeper.new.events }) result.end }
     ensures remember { Remember notes.old notes.new }
@@ -64,18 +64,18 @@ fn do_job<
     ensures looked { keeper.new.events ≢ [] }
     ensures faults { JobFaults (record { starts = L.start_faults berth.old.bay; reads = L.read_faults berth.old.bay; holds = L.hold_faults berth.old.bay }) (record { starts = L.start_faults berth.new.bay; reads = L.read_faults berth.new.bay; holds = L.hold_faults berth.new.bay }) result.end }
     ensures starts { (starts : List StartOf) × (L.told berth.new.bay ≡ option_map (with_starts starts) (L.told berth.old.bay))
-        × JobStarts berth.old.pool (M.words task.now.makes.now report.now.lane) (M.file task.now.makes.now) (M.stands task.now.makes.now report.now.lane) (M.ends task.now.makes.now report.now.lane) (M.proves task.now.makes.now report.now.lane)
-        (M.most task.now.makes.now) (M.most_output task.now.makes.now report.now.lane) (name_at task.now.mode place) (L.told berth.old.bay) (record { reader = result.events.events; keeper = keeper.new.events }) result.end starts }
+        × JobStarts berth.old.pool (M.words task.now.factory.now report.now.lane) (M.file task.now.factory.now) (M.stands task.now.factory.now report.now.lane) (M.ends task.now.factory.now report.now.lane) (M.proves task.now.factory.now report.now.lane)
+        (M.most task.now.factory.now) (M.most_output task.now.factory.now report.now.lane) (name_at task.now.mode place) (L.told berth.old.bay) (record { reader = result.events.events; keeper = keeper.new.events }) result.end starts }
 {
     let terms = task.terms(place);
     let watch = Watch {
-        asks: task.makes,
+        problem: task.factory,
         cells: task.cells,
         clock: task.clock,
         terms: &terms,
         other: other_cell(terms.job),
     };
-    if task.makes.serves(report.lane(), terms.job) {
+    if task.factory.serves(report.lane(), terms.job) {
         run_child(
             rt,
             alloc,
@@ -87,7 +87,7 @@ fn do_job<
             keeper,
         )
     } else {
-        Ran {
+        JobRun {
             end: pass_job(&watch, report, notes, keeper),
             events: reader,
         }
@@ -117,7 +117,7 @@ fn lasting_end<T: Drop>(ends: &[JobEnd<T>]) -> Option<JobEnd<T>>
 }
 
 // A job for whose lists memory runs out.
-fn want_lists<M: Makes<T>, T: Settled + Drop, C: Clock>(
+fn want_lists<M: LaneFactory<T>, T: Settled + Drop, C: Clock>(
     task: &Task<'_, M, T, C>,
     place: u32,
     report: &mut Report<T>,
@@ -125,9 +125,9 @@ fn want_lists<M: Makes<T>, T: Settled + Drop, C: Clock>(
     requires place { (place < report.old.jobs) × (length report.old.ends ≡ place) }
     requires left { slice_get report.old.events place ≡ Some no_events }
     ensures report { report.new ≡ record report.old { events = set report.old.events place (record { reader = []; keeper = event.KeeperMemory ∷ [] }); ends = report.old.ends ++ end.Memory ∷ [] } }
-    ensures served { M.is_served task.now.makes.now report.old.lane (name_at task.now.mode place) ⊎ (M.is_served task.now.makes.now report.old.lane (name_at task.now.mode place) → ⊥) }
+    ensures served { M.is_served task.now.factory.now report.old.lane (name_at task.now.mode place) ⊎ (M.is_served task.now.factory.now report.old.lane (name_at task.now.mode place) → ⊥) }
 {
-    let _is_served = task.makes.serves(report.lane(), job_at(task.mode, place));
+    let _is_served = task.factory.serves(report.lane(), job_at(task.mode, place));
     report.want_memory(place);
     report.push_end(JobEnd::Memory);
 }
@@ -136,7 +136,7 @@ fn want_lists<M: Makes<T>, T: Settled + Drop, C: Clock>(
 fn run_job<
     R: Threads + Wait + Sync,
     L: Launch,
-    M: Makes<T> + Sync,
+    M: LaneFactory<T> + Sync,
     T: Settled + Drop + Send + Sync,
     C: Clock,
 >(
@@ -151,10 +151,10 @@ fn run_job<
     requires place { (place < length task.now.cells.now) × (place < report.old.jobs) }
     requires notes { AreNotesOf task.now.cells.now notes.old }
     requires idle { IsIdle berth.old }
-    requires so_far { LaneSoFar (IsFor T.problem T.job (M.problem task.now.makes.now) task.now.mode) (λ k. M.is_served task.now.makes.now report.old.lane (name_at task.now.mode k))
+    requires so_far { LaneSoFar (IsFor T.problem T.job (M.problem task.now.factory.now) task.now.mode) (λ k. M.is_served task.now.factory.now report.old.lane (name_at task.now.mode k))
         (λ k. terms_of T.job T.answer (terms_at task.now.mode task.now.limit k)) (C.may_read task.now.clock.now) place notes.old report.old }
     requires free { (l : ℕ) → l < place → IsLast (end_at report.old l) → ⊥ }
-    ensures so_far { LaneSoFar (IsFor T.problem T.job (M.problem task.now.makes.now) task.now.mode) (λ k. M.is_served task.now.makes.now report.old.lane (name_at task.now.mode k))
+    ensures so_far { LaneSoFar (IsFor T.problem T.job (M.problem task.now.factory.now) task.now.mode) (λ k. M.is_served task.now.factory.now report.old.lane (name_at task.now.mode k))
         (λ k. terms_of T.job T.answer (terms_at task.now.mode task.now.limit k)) (C.may_read task.now.clock.now) (place + 1) notes.new report.new }
     ensures remember { Remember notes.old notes.new }
     ensures berth { berth.new ≡ record berth.old { bay = berth.new.bay } }
@@ -162,8 +162,8 @@ fn run_job<
     ensures faults { (e : JobEnd T) × (report.new.ends ≡ report.old.ends ++ e ∷ []) × JobFaults (record { starts = L.start_faults berth.old.bay; reads = L.read_faults berth.old.bay; holds = L.hold_faults berth.old.bay }) (record { starts = L.start_faults berth.new.bay; reads = L.read_faults berth.new.bay; holds = L.hold_faults berth.new.bay }) e }
     ensures stand { Stand place report.old report.new }
     ensures starts { (starts : List StartOf) × (L.told berth.new.bay ≡ option_map (with_starts starts) (L.told berth.old.bay))
-        × JobStarts berth.old.pool (M.words task.now.makes.now report.old.lane) (M.file task.now.makes.now) (M.stands task.now.makes.now report.old.lane) (M.ends task.now.makes.now report.old.lane) (M.proves task.now.makes.now report.old.lane)
-        (M.most task.now.makes.now) (M.most_output task.now.makes.now report.old.lane) (name_at task.now.mode place) (L.told berth.old.bay) (events_at report.new place) (end_at report.new place) starts }
+        × JobStarts berth.old.pool (M.words task.now.factory.now report.old.lane) (M.file task.now.factory.now) (M.stands task.now.factory.now report.old.lane) (M.ends task.now.factory.now report.old.lane) (M.proves task.now.factory.now report.old.lane)
+        (M.most task.now.factory.now) (M.most_output task.now.factory.now report.old.lane) (name_at task.now.mode place) (L.told berth.old.bay) (events_at report.new place) (end_at report.new place) starts }
 {
     let Ok(reader) = EventList::new(alloc, 1) else {
         return want_lists(task, place, report);
@@ -171,7 +171,7 @@ fn run_job<
     let Ok(mut keeper) = EventList::new(alloc, 8) else {
         return want_lists(task, place, report);
     };
-    let Ran { end, events } = do_job(
+    let JobRun { end, events } = do_job(
         rt,
         alloc,
         berth,
@@ -190,7 +190,7 @@ fn run_job<
 fn run_next<
     R: Threads + Wait + Sync,
     L: Launch,
-    M: Makes<T> + Sync,
+    M: LaneFactory<T> + Sync,
     T: Settled + Drop + Send + Sync,
     C: Clock,
 >(
@@ -205,9 +205,9 @@ fn run_next<
     requires place { (place < length task.now.cells.now) × (place < report.old.jobs) }
     requires notes { AreNotesOf task.now.cells.now notes.old }
     requires idle { IsIdle berth.old }
-    requires so_far { LaneSoFar (IsFor T.problem T.job (M.problem task.now.makes.now) task.now.mode) (λ k. M.is_served task.now.makes.now report.old.lane (name_at task.now.mode k))
+    requires so_far { LaneSoFar (IsFor T.problem T.job (M.problem task.now.factory.now) task.now.mode) (λ k. M.is_served task.now.factory.now report.old.lane (name_at task.now.mode k))
         (λ k. terms_of T.job T.answer (terms_at task.now.mode task.now.limit k)) (C.may_read task.now.clock.now) place notes.old report.old }
-    ensures so_far { LaneSoFar (IsFor T.problem T.job (M.problem task.now.makes.now) task.now.mode) (λ k. M.is_served task.now.makes.now report.old.lane (name_at task.now.mode k))
+    ensures so_far { LaneSoFar (IsFor T.problem T.job (M.problem task.now.factory.now) task.now.mode) (λ k. M.is_served task.now.factory.now report.old.lane (name_at task.now.mode k))
         (λ k. terms_of T.job T.answer (terms_at task.now.mode task.now.limit k)) (C.may_read task.now.clock.now) (place + 1) notes.new report.new }
     ensures remember { Remember notes.old notes.new }
     ensures berth { berth.new ≡ record berth.old { bay = berth.new.bay } }
@@ -215,8 +215,8 @@ fn run_next<
     ensures faults { (e : JobEnd T) × (report.new.ends ≡ report.old.ends ++ e ∷ []) × JobFaults (record { starts = L.start_faults berth.old.bay; reads = L.read_faults berth.old.bay; holds = L.hold_faults berth.old.bay }) (record { starts = L.start_faults berth.new.bay; reads = L.read_faults berth.new.bay; holds = L.hold_faults berth.new.bay }) e }
     ensures stand { Stand place report.old report.new }
     ensures starts { (starts : List StartOf) × (L.told berth.new.bay ≡ option_map (with_starts starts) (L.told berth.old.bay))
-        × ((CameLate report.new place × (starts ≡ [])) ⊎ JobStarts berth.old.pool (M.words task.now.makes.now report.old.lane) (M.file task.now.makes.now) (M.stands task.now.makes.now report.old.lane) (M.ends task.now.makes.now report.old.lane) (M.proves task.now.makes.now report.old.lane)
-        (M.most task.now.makes.now) (M.most_output task.now.makes.now report.old.lane) (name_at task.now.mode place) (L.told berth.old.bay) (events_at report.new place) (end_at report.new place) starts) }
+        × ((CameLate report.new place × (starts ≡ [])) ⊎ JobStarts berth.old.pool (M.words task.now.factory.now report.old.lane) (M.file task.now.factory.now) (M.stands task.now.factory.now report.old.lane) (M.ends task.now.factory.now report.old.lane) (M.proves task.now.factory.now report.old.lane)
+        (M.most task.now.factory.now) (M.most_output task.now.factory.now report.old.lane) (name_at task.now.mode place) (L.told berth.old.bay) (events_at report.new place) (end_at report.new place) starts) }
 {
     match lasting_end(report.ends()) {
         Some(end) => report.push_end(end),
@@ -232,7 +232,7 @@ fn run_next<
 pub fn run_lane<
     R: Threads + Wait + Sync,
     L: Launch,
-    M: Makes<T> + Sync,
+    M: LaneFactory<T> + Sync,
     T: Settled + Drop + Send + Sync,
     C: Clock,
 >(
@@ -248,16 +248,16 @@ pub fn run_lane<
     requires notes { AreNotesOf task.now.cells.now notes.old }
     requires idle { IsIdle berth.old }
     requires start { IfSome task.now.limit.millis (λ millis. C.may_read task.now.clock.now task.now.limit.start) }
-    ensures replays { Replays (λ k. M.is_served task.now.makes.now report.old.lane (name_at task.now.mode k))
+    ensures replays { Replays (λ k. M.is_served task.now.factory.now report.old.lane (name_at task.now.mode k))
         (λ k. terms_of T.job T.answer (terms_at task.now.mode task.now.limit k)) report.old.jobs report.new }
-    ensures done { LaneSoFar (IsFor T.problem T.job (M.problem task.now.makes.now) task.now.mode) (λ k. M.is_served task.now.makes.now report.old.lane (name_at task.now.mode k))
+    ensures done { LaneSoFar (IsFor T.problem T.job (M.problem task.now.factory.now) task.now.mode) (λ k. M.is_served task.now.factory.now report.old.lane (name_at task.now.mode k))
         (λ k. terms_of T.job T.answer (terms_at task.now.mode task.now.limit k)) (C.may_read task.now.clock.now) report.old.jobs notes.new report.new }
     ensures remember { Remember notes.old notes.new }
     ensures berth { berth.new ≡ record berth.old { bay = berth.new.bay } }
     ensures same { (report.new.lane ≡ report.old.lane) × (report.new.jobs ≡ report.old.jobs) }
     ensures faults { LaneFaults (record { starts = L.start_faults berth.old.bay; reads = L.read_faults berth.old.bay; holds = L.hold_faults berth.old.bay }) (record { starts = L.start_faults berth.new.bay; reads = L.read_faults berth.new.bay; holds = L.hold_faults berth.new.bay }) report.old.jobs report.new }
-    ensures starts { LaneStarts berth.old.pool (M.words task.now.makes.now report.old.lane) (M.file task.now.makes.now) (M.stands task.now.makes.now report.old.lane) (M.ends task.now.makes.now report.old.lane) (M.proves task.now.makes.now report.old.lane)
-        (M.most task.now.makes.now) (M.most_output task.now.makes.now report.old.lane) task.now.mode (L.told berth.old.bay) (L.told berth.new.bay) report.old.jobs report.new }
+    ensures starts { LaneStarts berth.old.pool (M.words task.now.factory.now report.old.lane) (M.file task.now.factory.now) (M.stands task.now.factory.now report.old.lane) (M.ends task.now.factory.now report.old.lane) (M.proves task.now.factory.now report.old.lane)
+        (M.most task.now.factory.now) (M.most_output task.now.factory.now report.old.lane) task.now.mode (L.told berth.old.bay) (L.told berth.new.bay) report.old.jobs report.new }
     ensures stopped { LaneStops (C.may_read task.now.clock.now) task.now.limit report.old.jobs report.new }
 {
     for place in 0..report.jobs() {

@@ -18,7 +18,7 @@ ghost use Rattle.lane_run.specs.Started.{LaneStarts};
 ghost use Rattle.sby_edge.specs.Cause.{CountsOf};
 ghost use Rattle.sby_edge.specs.Child.{BayOf};
 
-use crate::Makes;
+use crate::LaneFactory;
 use crate::task::Task;
 use race_cells::Notes;
 use race_core::Report;
@@ -37,33 +37,33 @@ pub fn reasons_have_causes<T>()
 {}
 
 /// Lanes that have done all their jobs report consistently, where one note knows what their events say.
-pub fn lanes_are_consistent<M: Makes<T>, T: Settled, C: Clock>(
+pub fn lanes_are_consistent<M: LaneFactory<T>, T: Settled, C: Clock>(
     task: &Task<'_, M, T, C>,
     notes: &Notes<T>,
     reports: &[Report<T>],
 )
-    requires { LanesDone (IsFor T.problem T.job (M.problem task.now.makes.now) task.now.mode) (λ i k. M.is_served task.now.makes.now i (name_at task.now.mode k))
+    requires { LanesDone (IsFor T.problem T.job (M.problem task.now.factory.now) task.now.mode) (λ i k. M.is_served task.now.factory.now i (name_at task.now.mode k))
         (λ k. terms_of T.job T.answer (terms_at task.now.mode task.now.limit k)) (C.may_read task.now.clock.now) (length task.now.cells.now) notes.now reports.now }
-    ensures { Consistent (IsFor T.problem T.job (M.problem task.now.makes.now) task.now.mode) (λ i k. M.is_served task.now.makes.now i (name_at task.now.mode k))
+    ensures { Consistent (IsFor T.problem T.job (M.problem task.now.factory.now) task.now.mode) (λ i k. M.is_served task.now.factory.now i (name_at task.now.mode k))
         (λ k. terms_of T.job T.answer (terms_at task.now.mode task.now.limit k)) (length reports.now) (length task.now.cells.now) reports.now }
 {}
 
 /// The ends of a lane that nothing disturbed are Plain's, or carry a finding that the lane knows: its own, or one that a look showed. So
 /// it is where the bay tells its scripts, none has a gate, no call failed, no two readings are the limit apart, and memory sufficed.
-pub fn undisturbed_lanes_are_plain<M: Makes<T>, T: Settled, C: Clock>(
+pub fn undisturbed_lanes_are_plain<M: LaneFactory<T>, T: Settled, C: Clock>(
     task: &Task<'_, M, T, C>,
     notes: &Notes<T>,
     report: &Report<T>,
 )
-    requires done { LaneSoFar (IsFor T.problem T.job (M.problem task.now.makes.now) task.now.mode) (λ k. M.is_served task.now.makes.now report.now.lane (name_at task.now.mode k))
+    requires done { LaneSoFar (IsFor T.problem T.job (M.problem task.now.factory.now) task.now.mode) (λ k. M.is_served task.now.factory.now report.now.lane (name_at task.now.mode k))
         (λ k. terms_of T.job T.answer (terms_at task.now.mode task.now.limit k)) (C.may_read task.now.clock.now) report.now.jobs notes.now report.now }
     requires stopped { LaneStops (C.may_read task.now.clock.now) task.now.limit report.now.jobs report.now }
     ensures { (pool : Option PoolOf) (bay : BayOf) (told : Option BayOf) (before now : CountsOf) → LaneFaults before now report.now.jobs report.now
-        → LaneStarts pool (M.words task.now.makes.now report.now.lane) (M.file task.now.makes.now) (M.stands task.now.makes.now report.now.lane) (M.ends task.now.makes.now report.now.lane) (M.proves task.now.makes.now report.now.lane)
-        (M.most task.now.makes.now) (M.most_output task.now.makes.now report.now.lane) task.now.mode (Some bay) told report.now.jobs report.now
+        → LaneStarts pool (M.words task.now.factory.now report.now.lane) (M.file task.now.factory.now) (M.stands task.now.factory.now report.now.lane) (M.ends task.now.factory.now report.now.lane) (M.proves task.now.factory.now report.now.lane)
+        (M.most task.now.factory.now) (M.most_output task.now.factory.now report.now.lane) task.now.mode (Some bay) told report.now.jobs report.now
         → IsUndisturbed (C.may_read task.now.clock.now) task.now.limit task.now.mode bay before now report.now.jobs report.now
         → (j : ℕ) → j < report.now.jobs
-        → IsPlain (M.is_served task.now.makes.now report.now.lane (name_at task.now.mode j)) (M.ends task.now.makes.now report.now.lane (name_at task.now.mode j)) (M.proves task.now.makes.now report.now.lane (name_at task.now.mode j))
-        (M.most task.now.makes.now) bay (name_at task.now.mode j) (end_at report.now j)
+        → IsPlain (M.is_served task.now.factory.now report.now.lane (name_at task.now.mode j)) (M.ends task.now.factory.now report.now.lane (name_at task.now.mode j)) (M.proves task.now.factory.now report.now.lane (name_at task.now.mode j))
+        (M.most task.now.factory.now) bay (name_at task.now.mode j) (end_at report.now j)
         ⊎ IsKnown report.now.jobs report.now (end_at report.now j) }
 {}

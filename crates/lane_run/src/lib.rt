@@ -2,6 +2,7 @@
 //! beside each other.
 #![tactic(auto)]
 
+mod child_judge;
 mod ending;
 mod entering;
 mod gather;
@@ -20,19 +21,18 @@ mod proof;
 mod racing;
 mod reader;
 mod start;
-mod subject;
 mod task;
 mod waiting;
 
+pub use child_judge::{ChildJudge, ForJob};
 pub use gather::Raced;
-pub use job::{Ran, run_started};
+pub use job::{JobRun, run_started};
 pub use keeper::Watch;
 pub use lane::run_lane;
 pub use laws::{lanes_are_consistent, reasons_have_causes};
-pub use making::{Child, Makes};
+pub use making::{Child, LaneFactory};
 pub use over::Asked;
 pub use prepare::{FreshLanes, fresh_lanes, spare_lanes};
 pub use racing::{Lane, race, race_fresh, run_lanes};
 pub use start::{look_first, run_child, want};
-pub use subject::{Asks, Subject};
 pub use task::{Limit, Task};

@@ -17,10 +17,10 @@ ghost use Rattle.race_core.specs.declared.part.Reason.TheVariants as reason;
 ghost use Rattle.sby_edge.specs.Cause.{Rose};
 ghost use Rattle.sby_edge.specs.Child.{PipeOf, finished};
 
+use crate::child_judge::{ChildJudge, ForJob};
 use crate::keeper::{Kept, Watch, keep};
 use crate::placing::finish_child;
 use crate::reader::read_out;
-use crate::subject::{Asks, Subject};
 use lane_berth::Berth;
 use race_cells::Notes;
 use race_core::{EventList, Reader, Reason};
@@ -45,11 +45,11 @@ pub(crate) trait Side {
 }
 
 // The reader's side and the keeper beside each other. The flag tells that one of them has ended. Where no thread can be made, `join_mut` calls its second closure first. That has to be
-// the reader's side: it needs nothing of the keeper to come to its end, and a keeper without it would wait for ever.
+// the reader's side: it needs nothing of the keeper to end, and a keeper without it would wait for ever.
 pub(crate) fn run_beside<
     R: Threads + Wait + Sync,
     A: Side<Output = X>,
-    J: Asks<T> + Sync,
+    J: ForJob<T> + Sync,
     T: Settled + Drop + Send + Sync,
     C: Clock,
     H: Hold + Send,
@@ -72,7 +72,7 @@ pub(crate) fn run_beside<
     requires room { reserved + 2 ≤ events.old.room }
     requires turns { TakesTurns (keeper_from (terms_of T.job T.answer watch.now.terms.now) keeper.Fresh events.old.events) }
     ensures reader { A.runs reader.old result.0 reader.new }
-    ensures kept { KeptOut (terms_of T.job T.answer watch.now.terms.now) (IsOfCell T.problem T.job (J.problem watch.now.asks.now) watch.now.terms.now watch.now.other) (C.may_read watch.now.clock.now) notes.old notes.new events.old.events events.new.events
+    ensures kept { KeptOut (terms_of T.job T.answer watch.now.terms.now) (IsOfCell T.problem T.job (J.problem watch.now.problem.now) watch.now.terms.now watch.now.other) (C.may_read watch.now.clock.now) notes.old notes.new events.old.events events.new.events
         (H.faults hold.new) result.1.why result.1.is_failed }
     ensures room { reserved ≤ events.new.room }
     ensures turns_room { IfNone result.1.why (reserved + 2 ≤ events.new.room) }
@@ -106,25 +106,25 @@ pub(crate) struct ReaderSide<'r, 'f, R, P, S, T> {
     pub(crate) alloc: Global,
     pub(crate) has_ended: &'f AtomicBool,
     pub(crate) pipe: P,
-    pub(crate) subject: S,
+    pub(crate) judge: S,
     pub(crate) events: EventList<T>,
 }
 
-impl<'r, 'f, R: Wait, P: Pipe, S: Subject<T>, T: Settled + Drop> Side
+impl<'r, 'f, R: Wait, P: Pipe, S: ChildJudge<T>, T: Settled + Drop> Side
     for ReaderSide<'r, 'f, R, P, S, T> {
     type Output = Reader<T>;
 
-    ghost can_run = { λ s. (S.taken s.subject ≡ []) × (s.events.events ≡ []) × (1 ≤ s.events.room) × S.goes_on s.subject };
+    ghost can_run = { λ s. (S.taken s.judge ≡ []) × (s.events.events ≡ []) × (1 ≤ s.events.room) × S.goes_on s.judge };
 
-    ghost runs = { λ before part now. ReadOut (S.stands before.subject) (S.ends before.subject) (S.proves before.subject) (S.proves now.subject)
-        (S.awaits now.subject) (S.most before.subject) (P.faults now.pipe) now.events.room (P.told before.pipe) (P.told now.pipe) (S.taken now.subject) now.events.events part };
+    ghost runs = { λ before part now. ReadOut (S.stands before.judge) (S.ends before.judge) (S.proves before.judge) (S.proves now.judge)
+        (S.awaits now.judge) (S.most before.judge) (P.faults now.pipe) now.events.room (P.told before.pipe) (P.told now.pipe) (S.taken now.judge) now.events.events part };
 
     fn run(&mut self) -> Reader<T> {
         let part = read_out(
             self.rt,
             self.alloc,
             &mut self.pipe,
-            &mut self.subject,
+            &mut self.judge,
             &mut self.events,
         );
         self.has_ended.store(true, Ordering::SeqCst);
@@ -134,7 +134,7 @@ impl<'r, 'f, R: Wait, P: Pipe, S: Subject<T>, T: Settled + Drop> Side
 
 /// What a child's two sides leave.
 pub(crate) struct Lived<S, T> {
-    pub(crate) subject: S,
+    pub(crate) judge: S,
     pub(crate) events: EventList<T>,
     pub(crate) part: Reader<T>,
     pub(crate) why: Option<Reason<T>>,
@@ -188,8 +188,8 @@ const RESERVED: usize = 2;
 pub(crate) fn live<
     R: Threads + Wait + Sync,
     L: Launch,
-    S: Subject<T>,
-    J: Asks<T> + Sync,
+    S: ChildJudge<T>,
+    J: ForJob<T> + Sync,
     T: Settled + Drop + Send + Sync,
     C: Clock,
 >(
@@ -198,14 +198,14 @@ pub(crate) fn live<
     berth: &mut Berth<'_, L>,
     child: (L::Pipe, L::Hold),
     watch: &Watch<'_, J, T, C>,
-    subject: S,
+    judge: S,
     notes: &mut Notes<T>,
     reader_events: EventList<T>,
     keeper_events: &mut EventList<T>,
 ) -> Lived<S, T>
-    requires fresh { (S.taken subject ≡ []) × (reader_events.events ≡ []) }
+    requires fresh { (S.taken judge ≡ []) × (reader_events.events ≡ []) }
     requires reader_room { 1 ≤ reader_events.room }
-    requires goes_on { S.goes_on subject }
+    requires goes_on { S.goes_on judge }
     requires alive { L.Hold.killed child.1 ≡ None }
     requires cell { watch.now.terms.now.cell < length watch.now.cells.now }
     requires other { IfSome watch.now.other (λ o. o.0 < length watch.now.cells.now) }
@@ -217,18 +217,18 @@ pub(crate) fn live<
     ensures part { result.part ≡ reader_of (record { reader = result.events.events; keeper = [] }) }
     ensures has_read { HasRead result.part }
     ensures room { (result.part ≡ reader.Short) ⊎ (1 ≤ result.events.room) }
-    ensures awaits { result.part ≡ reader.Asking → S.awaits result.subject }
-    ensures proves { Within (S.proves result.subject) (S.proves subject) }
-    ensures most { length (S.taken result.subject) ≤ S.most subject + 2 ^ 16 }
+    ensures awaits { result.part ≡ reader.Asking → S.awaits result.judge }
+    ensures proves { Within (S.proves result.judge) (S.proves judge) }
+    ensures most { length (S.taken result.judge) ≤ S.most judge + 2 ^ 16 }
     ensures reader { (now : Option PipeOf) × (killed : Option ℕ) × (L.told berth.new.bay ≡ option_map (finished now killed) (L.told berth.old.bay)) × KilledBy result.why now killed
-        × ReadSoFar (L.Pipe.told child.0) now (S.taken result.subject) result.events.events
-        × Comes (S.stands subject) (S.ends subject) (S.proves subject) (NoneLeft now) (S.taken result.subject) [] result.part }
+        × ReadSoFar (L.Pipe.told child.0) now (S.taken result.judge) result.events.events
+        × Comes (S.stands judge) (S.ends judge) (S.proves judge) (NoneLeft now) (S.taken result.judge) [] result.part }
     ensures read_failed { result.part ≡ reader.Failed → Rose (L.read_faults berth.old.bay) (L.read_faults berth.new.bay) }
     ensures kept { MatchOption result.why (TakesTurns (keeper_from (terms_of T.job T.answer watch.now.terms.now) keeper.Fresh keeper_events.new.events)) (λ why. keeper_from (terms_of T.job T.answer watch.now.terms.now) keeper.Fresh keeper_events.new.events ≡ keeper.Killed why) }
     ensures keeper_room { IfNone result.why (2 ≤ keeper_events.new.room) }
     ensures place { place_from Away keeper_events.new.events ≡ Away }
     ensures same { berth.new ≡ record berth.old { bay = berth.new.bay; holds = false; stands = false } }
-    ensures keeps { Keeps (IsOfCell T.problem T.job (J.problem watch.now.asks.now) watch.now.terms.now watch.now.other) (C.may_read watch.now.clock.now) notes.old notes.new keeper_events.old.events keeper_events.new.events }
+    ensures keeps { Keeps (IsOfCell T.problem T.job (J.problem watch.now.problem.now) watch.now.terms.now watch.now.other) (C.may_read watch.now.clock.now) notes.old notes.new keeper_events.old.events keeper_events.new.events }
     ensures fault { IfSome result.why (λ why. EndsChild why × (why ≡ reason.Fault → Rose (L.hold_faults berth.old.bay) (L.hold_faults berth.new.bay))) }
     ensures failed { result.is_failed ≡ true → Rose (L.hold_faults berth.old.bay) (L.hold_faults berth.new.bay) }
     ensures starts { L.start_faults berth.new.bay ≡ L.start_faults berth.old.bay }
@@ -241,7 +241,7 @@ pub(crate) fn live<
         alloc,
         has_ended: &flag,
         pipe,
-        subject,
+        judge,
         events: reader_events,
     };
     let (part, kept) = run_beside(
@@ -260,12 +260,12 @@ pub(crate) fn live<
         alloc: _,
         has_ended: _,
         pipe,
-        subject,
+        judge,
         events,
     } = reader;
     finish_child(watch, berth, pipe, hold, notes, keeper_events);
     Lived {
-        subject,
+        judge,
         events,
         part,
         why: kept.why,

@@ -13,14 +13,14 @@ ghost use Rattle.lane_run.specs.Starting.{NoStart};
 ghost use Rattle.lane_run.specs.Done.{KnownIn};
 
 use crate::known::known_skipping;
-use crate::{Asks, Watch, look_first, want};
+use crate::{ForJob, Watch, look_first, want};
 use race_cells::Notes;
 use race_core::{EventList, JobEnd, Report};
 use sby_edge::Clock;
 use sby_terms::Settled;
 
 // The end of a job that isn't served: it is skipped, by a look or by what the lane knows already, or it isn't served.
-pub(crate) fn pass_job<J: Asks<T>, T: Settled + Drop, C: Clock>(
+pub(crate) fn pass_job<J: ForJob<T>, T: Settled + Drop, C: Clock>(
     watch: &Watch<'_, J, T, C>,
     report: &Report<T>,
     notes: &mut Notes<T>,
@@ -35,7 +35,7 @@ pub(crate) fn pass_job<J: Asks<T>, T: Settled + Drop, C: Clock>(
     ensures looked { keeper_from (terms_of T.job T.answer watch.now.terms.now) keeper.Fresh events.new.events ≢ keeper.Fresh }
     ensures right { RightKeeper (keeper_from (terms_of T.job T.answer watch.now.terms.now) keeper.Fresh events.new.events) }
     ensures place { place_from Away events.new.events ≡ Away }
-    ensures keeps { Keeps (IsOfCell T.problem T.job (J.problem watch.now.asks.now) watch.now.terms.now watch.now.other) (C.may_read watch.now.clock.now) notes.old notes.new [] events.new.events }
+    ensures keeps { Keeps (IsOfCell T.problem T.job (J.problem watch.now.problem.now) watch.now.terms.now watch.now.other) (C.may_read watch.now.clock.now) notes.old notes.new [] events.new.events }
 {
     if let Some(end) = look_first(watch, notes, events) {
         return end;

@@ -13,8 +13,8 @@ ghost use Rattle.race_core.specs.declared.part.Place.TheVariants.{Away};
 ghost use Rattle.sby_edge.specs.Cause.{RisesBy};
 ghost use Rattle.sby_edge.specs.Child.{finished};
 
+use crate::child_judge::ForJob;
 use crate::keeper::{Watch, enter_plain};
-use crate::subject::Asks;
 use lane_berth::Berth;
 use race_cells::Notes;
 use race_core::{EventList, LaneEvent};
@@ -23,7 +23,7 @@ use sby_terms::Settled;
 
 // Enters what a lane did with its place, where there is an allowance.
 #[tactic(auto, using(crate::proofs::PlaceLemmas::placed_some, crate::proofs::PlaceLemmas::placed_none, crate::proofs::PlaceLemmas::told_some, crate::proofs::PlaceLemmas::told_none))]
-pub(crate) fn enter_place<L: Launch, J: Asks<T>, T: Settled + Drop, C: Clock>(
+pub(crate) fn enter_place<L: Launch, J: ForJob<T>, T: Settled + Drop, C: Clock>(
     watch: &Watch<'_, J, T, C>,
     berth: &Berth<'_, L>,
     notes: &Notes<T>,
@@ -37,7 +37,7 @@ pub(crate) fn enter_place<L: Launch, J: Asks<T>, T: Settled + Drop, C: Clock>(
     ensures part { keeper_from (terms_of T.job T.answer watch.now.terms.now) keeper.Fresh events.new.events ≡ keeper_from (terms_of T.job T.answer watch.now.terms.now) keeper.Fresh events.old.events }
     ensures place { place_from Away events.new.events ≡ placed_after berth.now.pool entry (place_from Away events.old.events) }
     ensures told { IfSome berth.now.pool (λ _. IsChildStart entry → HasChildStart events.new.events) }
-    ensures keeps { Keeps (IsOfCell T.problem T.job (J.problem watch.now.asks.now) watch.now.terms.now watch.now.other) (C.may_read watch.now.clock.now) notes.now notes.now events.old.events events.new.events }
+    ensures keeps { Keeps (IsOfCell T.problem T.job (J.problem watch.now.problem.now) watch.now.terms.now watch.now.other) (C.may_read watch.now.clock.now) notes.now notes.now events.old.events events.new.events }
 {
     if berth.is_seated() {
         enter_plain(watch, notes, events, entry);
@@ -45,7 +45,7 @@ pub(crate) fn enter_place<L: Launch, J: Asks<T>, T: Settled + Drop, C: Clock>(
 }
 
 // Asks for a place, where there is an allowance. Whether a child may be started.
-pub(crate) fn take_place<L: Launch, J: Asks<T>, T: Settled + Drop, C: Clock>(
+pub(crate) fn take_place<L: Launch, J: ForJob<T>, T: Settled + Drop, C: Clock>(
     watch: &Watch<'_, J, T, C>,
     berth: &mut Berth<'_, L>,
     notes: &Notes<T>,
@@ -60,7 +60,7 @@ pub(crate) fn take_place<L: Launch, J: Asks<T>, T: Settled + Drop, C: Clock>(
     ensures free { IfNone berth.old.pool (berth.new.holds ≡ false) }
     ensures room { events.old.room ≤ events.new.room + 1 }
     ensures part { keeper_from (terms_of T.job T.answer watch.now.terms.now) keeper.Fresh events.new.events ≡ keeper_from (terms_of T.job T.answer watch.now.terms.now) keeper.Fresh events.old.events }
-    ensures keeps { Keeps (IsOfCell T.problem T.job (J.problem watch.now.asks.now) watch.now.terms.now watch.now.other) (C.may_read watch.now.clock.now) notes.now notes.now events.old.events events.new.events }
+    ensures keeps { Keeps (IsOfCell T.problem T.job (J.problem watch.now.problem.now) watch.now.terms.now watch.now.other) (C.may_read watch.now.clock.now) notes.now notes.now events.old.events events.new.events }
 {
     if !berth.take() {
         return false;
@@ -70,7 +70,7 @@ pub(crate) fn take_place<L: Launch, J: Asks<T>, T: Settled + Drop, C: Clock>(
 }
 
 // Gives a lane's place back.
-pub(crate) fn give_place<L: Launch, J: Asks<T>, T: Settled + Drop, C: Clock>(
+pub(crate) fn give_place<L: Launch, J: ForJob<T>, T: Settled + Drop, C: Clock>(
     watch: &Watch<'_, J, T, C>,
     berth: &mut Berth<'_, L>,
     notes: &Notes<T>,
@@ -82,14 +82,14 @@ pub(crate) fn give_place<L: Launch, J: Asks<T>, T: Settled + Drop, C: Clock>(
     ensures room { events.old.room ≤ events.new.room + 1 }
     ensures part { keeper_from (terms_of T.job T.answer watch.now.terms.now) keeper.Fresh events.new.events ≡ keeper_from (terms_of T.job T.answer watch.now.terms.now) keeper.Fresh events.old.events }
     ensures place { place_from Away events.new.events ≡ placed_after {T = T} berth.old.pool event.Gave (place_from Away events.old.events) }
-    ensures keeps { Keeps (IsOfCell T.problem T.job (J.problem watch.now.asks.now) watch.now.terms.now watch.now.other) (C.may_read watch.now.clock.now) notes.now notes.now events.old.events events.new.events }
+    ensures keeps { Keeps (IsOfCell T.problem T.job (J.problem watch.now.problem.now) watch.now.terms.now watch.now.other) (C.may_read watch.now.clock.now) notes.now notes.now events.old.events events.new.events }
 {
     berth.give();
     enter_place(watch, berth, notes, events, LaneEvent::Gave);
 }
 
 // The end of a child that was reaped; then its place is given back.
-pub(crate) fn finish_child<L: Launch, J: Asks<T>, T: Settled + Drop, C: Clock>(
+pub(crate) fn finish_child<L: Launch, J: ForJob<T>, T: Settled + Drop, C: Clock>(
     watch: &Watch<'_, J, T, C>,
     berth: &mut Berth<'_, L>,
     pipe: L::Pipe,
@@ -109,7 +109,7 @@ pub(crate) fn finish_child<L: Launch, J: Asks<T>, T: Settled + Drop, C: Clock>(
     ensures room { events.old.room ≤ events.new.room + 2 }
     ensures part { keeper_from (terms_of T.job T.answer watch.now.terms.now) keeper.Fresh events.new.events ≡ keeper_from (terms_of T.job T.answer watch.now.terms.now) keeper.Fresh events.old.events }
     ensures place { place_from Away events.new.events ≡ Away }
-    ensures keeps { Keeps (IsOfCell T.problem T.job (J.problem watch.now.asks.now) watch.now.terms.now watch.now.other) (C.may_read watch.now.clock.now) notes.now notes.now events.old.events events.new.events }
+    ensures keeps { Keeps (IsOfCell T.problem T.job (J.problem watch.now.problem.now) watch.now.terms.now watch.now.other) (C.may_read watch.now.clock.now) notes.now notes.now events.old.events events.new.events }
 {
     berth.finish(pipe, hold);
     enter_place(watch, berth, notes, events, LaneEvent::Finish);

@@ -15,14 +15,14 @@ use std::alloc::{AllocError, Global};
 
 // What a lane has before it gets its bay.
 #[derive(Drop)]
-struct Seat<T> {
+struct PreparedLane<T> {
     report: Report<T>,
     notes: Notes<T>,
 }
 
-// What a race has before its bays: a seat for each lane, and the room for its lanes and for what they leave.
+// What a race has before its bays: its prepared lanes, and the room for its lanes and for what they leave.
 struct Room<'p, L, T> {
-    seats: Vec<Seat<T>>,
+    prepared: Vec<PreparedLane<T>>,
     lanes: Vec<Lane<'p, L, T>>,
     raced: Raced<L, T>,
 }
@@ -34,39 +34,39 @@ pub struct FreshLanes<'p, L, T> {
     pub(crate) pool: Option<&'p Pool>,
 }
 
-// The seat of a lane that has done nothing yet.
-fn fresh_seat<T: Settled + Drop>(
+// Prepares the lane at a place.
+fn prepare_lane<T: Settled + Drop>(
     alloc: Global,
     cells: &Cells<T>,
     jobs: u32,
     place: u32,
-) -> Result<Seat<T>, AllocError>
+) -> Result<PreparedLane<T>, AllocError>
     requires { jobs ≡ length cells.now }
     ensures ready { IfOk result (λ s. IsReady cells.now s.report s.notes) }
     ensures place { IfOk result (λ s. s.report.lane ≡ place) }
 {
     let report = Report::new(alloc, place, jobs)?;
     let notes = cells.notes(alloc)?;
-    Ok(Seat { report, notes })
+    Ok(PreparedLane { report, notes })
 }
 
-// The seats of this many lanes that have done nothing yet.
-fn fresh_seats<T: Settled + Drop>(
+// Prepares this many lanes.
+fn prepare_lanes<T: Settled + Drop>(
     alloc: Global,
     cells: &Cells<T>,
     jobs: u32,
     count: u32,
-) -> Result<Vec<Seat<T>>, AllocError>
+) -> Result<Vec<PreparedLane<T>>, AllocError>
     requires jobs { jobs ≡ length cells.now }
-    ensures count { IfOk result (λ seats. length seats.items ≡ count) }
-    ensures ready { IfOk result (λ seats. All (λ s. IsReady cells.now s.report s.notes) seats.items) }
-    ensures places { IfOk result (λ seats. (i : ℕ) (d : Seat T) → i < length seats.items → (slice_index_or seats.items i d).report.lane ≡ i) }
+    ensures count { IfOk result (λ prepared. length prepared.items ≡ count) }
+    ensures ready { IfOk result (λ prepared. All (λ s. IsReady cells.now s.report s.notes) prepared.items) }
+    ensures places { IfOk result (λ prepared. (i : ℕ) (d : PreparedLane T) → i < length prepared.items → (slice_index_or prepared.items i d).report.lane ≡ i) }
 {
-    let mut seats = Vec::with_capacity(alloc, count as usize)?;
+    let mut prepared = Vec::with_capacity(alloc, count as usize)?;
     for place in 0..count {
-        seats.push_reserved(fresh_seat(alloc, cells, jobs, place)?);
+        prepared.push_reserved(prepare_lane(alloc, cells, jobs, place)?);
     }
-    Ok(seats)
+    Ok(prepared)
 }
 
 // Room for this many lanes, and for their bays after them.
@@ -95,20 +95,20 @@ fn fresh_room<'p, L, T: Settled + Drop>(
     count: u32,
 ) -> Result<Room<'p, L, T>, AllocError>
     requires jobs { jobs ≡ length cells.now }
-    ensures count { IfOk result (λ r. length r.seats.items ≡ count) }
-    ensures ready { IfOk result (λ r. All (λ s. IsReady cells.now s.report s.notes) r.seats.items) }
-    ensures places { IfOk result (λ r. (i : ℕ) (d : Seat T) → i < length r.seats.items → (slice_index_or r.seats.items i d).report.lane ≡ i) }
+    ensures count { IfOk result (λ r. length r.prepared.items ≡ count) }
+    ensures ready { IfOk result (λ r. All (λ s. IsReady cells.now s.report s.notes) r.prepared.items) }
+    ensures places { IfOk result (λ r. (i : ℕ) (d : PreparedLane T) → i < length r.prepared.items → (slice_index_or r.prepared.items i d).report.lane ≡ i) }
     ensures lanes { IfOk result (λ r. (r.lanes.items ≡ []) × (count ≤ vec_capacity r.lanes)) }
     ensures fresh { IfOk result (λ r. (r.raced.bays.items ≡ []) × (r.raced.reports.items ≡ [])) }
     ensures notes { IfOk result (λ r. AreNotesOf cells.now r.raced.notes) }
     ensures room { IfOk result (λ r. (count ≤ vec_capacity r.raced.bays) × (count ≤ vec_capacity r.raced.reports)) }
 {
-    let seats = fresh_seats(alloc, cells, jobs, count)?;
+    let prepared = prepare_lanes(alloc, cells, jobs, count)?;
     let reports = Vec::with_capacity(alloc, count as usize)?;
     let notes = cells.notes(alloc)?;
     let (lanes, bays) = fresh_rows(alloc, count as usize)?;
     Ok(Room {
-        seats,
+        prepared,
         lanes,
         raced: Raced {
             bays,
@@ -118,30 +118,30 @@ fn fresh_room<'p, L, T: Settled + Drop>(
     })
 }
 
-// Gives each seat the bay at its place. There is room for the lanes.
-fn take_seats<'p, L, T: Drop>(
-    seats: Vec<Seat<T>>,
+// Gives each prepared lane the bay at its place. There is room for the lanes.
+fn give_bays<'p, L, T: Drop>(
+    prepared: Vec<PreparedLane<T>>,
     bays: Vec<L>,
     lanes: &mut Vec<Lane<'p, L, T>>,
     allowance: &mut Allowance<'p>,
 )
     requires fresh { lanes.old.items ≡ [] }
-    requires same { length seats.items ≡ length bays.items }
-    requires room { length seats.items ≤ vec_capacity lanes.old }
+    requires same { length prepared.items ≡ length bays.items }
+    requires room { length prepared.items ≤ vec_capacity lanes.old }
     ensures bays { map (λ l. l.bay.bay) lanes.new.items ≡ bays.items }
-    ensures pools { map (λ l. l.bay.pool) lanes.new.items ≡ map (λ _. allowance.old) seats.items }
-    ensures away { map (λ l. l.bay.holds) lanes.new.items ≡ map (λ _. false) seats.items }
-    ensures none { map (λ l. l.bay.stands) lanes.new.items ≡ map (λ _. false) seats.items }
+    ensures pools { map (λ l. l.bay.pool) lanes.new.items ≡ map (λ _. allowance.old) prepared.items }
+    ensures away { map (λ l. l.bay.holds) lanes.new.items ≡ map (λ _. false) prepared.items }
+    ensures none { map (λ l. l.bay.stands) lanes.new.items ≡ map (λ _. false) prepared.items }
     ensures allowance { allowance.new ≡ allowance.old }
-    ensures reports { map (λ l. l.report) lanes.new.items ≡ map (λ s. s.report) seats.items }
-    ensures notes { map (λ l. l.notes) lanes.new.items ≡ map (λ s. s.notes) seats.items }
+    ensures reports { map (λ l. l.report) lanes.new.items ≡ map (λ s. s.report) prepared.items }
+    ensures notes { map (λ l. l.notes) lanes.new.items ≡ map (λ s. s.notes) prepared.items }
 {
     let mut left = bays.into_iter();
-    for seat in seats {
+    for lane in prepared {
         let Some(bay) = left.next() else {
             unreachable!();
         };
-        let Seat { report, notes } = seat;
+        let PreparedLane { report, notes } = lane;
         let bay = allowance.berth(bay);
         lanes.push_reserved(Lane { bay, report, notes });
     }
@@ -169,12 +169,12 @@ pub fn fresh_lanes<'p, L, T: Settled + Drop>(
         return Err(bays);
     };
     let Room {
-        seats,
+        prepared,
         mut lanes,
         raced,
     } = room;
     let pool = allowance.pool();
-    take_seats(seats, bays, &mut lanes, allowance);
+    give_bays(prepared, bays, &mut lanes, allowance);
     Ok(FreshLanes { lanes, raced, pool })
 }
 

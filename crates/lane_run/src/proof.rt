@@ -17,11 +17,11 @@ ghost use Rattle.race_core.specs.declared.part.Reader.TheVariants as reader;
 ghost use Rattle.race_core.specs.declared.part.Reason.TheVariants as reason;
 ghost use Rattle.sby_edge.specs.Cause.{Rose};
 
+use crate::child_judge::{ChildJudge, ForJob};
 use crate::entering::enter;
 use crate::keeper::Watch;
 use crate::life::{Side, run_beside};
 use crate::over::{Asked, enter_memory};
-use crate::subject::{Asks, Subject};
 use lane_berth::Berth;
 use race_cells::Notes;
 use race_core::{By, EventList, Judged, LaneEvent, Reader, Reason};
@@ -65,15 +65,15 @@ impl Hold for OverHold {
 }
 
 // Judges a proof file from here to its end. Answers what is left of it where the keeper has ended.
-fn judge_pieces<'p, S: Subject<T>, T: Settled>(
+fn judge_pieces<'p, S: ChildJudge<T>, T: Settled>(
     alloc: Global,
     has_ended: &AtomicBool,
-    subject: &mut S,
+    judge: &mut S,
     proof: &'p [u8],
 ) -> Result<Judged<T>, &'p [u8]>
-    requires { S.proving subject.old }
-    ensures { MatchResult result (λ p. (p ≢ judged.More) × Says (S.proves subject.old) (S.proved subject.old ++ proof.now) p)
-        (λ left. S.proving subject.new × (S.proved subject.new ++ left.now ≡ S.proved subject.old ++ proof.now) × Within (S.proves subject.new) (S.proves subject.old)) }
+    requires { S.proving judge.old }
+    ensures { MatchResult result (λ p. (p ≢ judged.More) × Says (S.proves judge.old) (S.proved judge.old ++ proof.now) p)
+        (λ left. S.proving judge.new × (S.proved judge.new ++ left.now ≡ S.proved judge.old ++ proof.now) × Within (S.proves judge.new) (S.proves judge.old)) }
 {
     let mut left = proof;
     while !left.is_empty() {
@@ -81,32 +81,32 @@ fn judge_pieces<'p, S: Subject<T>, T: Settled>(
             return Err(left);
         }
         let (piece, rest) = left.split_at(left.len().min(PIECE));
-        match subject.feed_proof(alloc, piece) {
+        match judge.feed_proof(alloc, piece) {
             Judged::More => left = rest,
             said => return Ok(said),
         }
     }
-    Ok(subject.end_proof(alloc))
+    Ok(judge.end_proof(alloc))
 }
 
 // The judging of a proof file.
 struct ProofSide<'f, 'p, S, T> {
     alloc: Global,
     has_ended: &'f AtomicBool,
-    subject: S,
+    judge: S,
     left: &'p [u8],
     said: Option<Judged<T>>,
 }
 
-impl<'f, 'p, S: Subject<T>, T: Settled + Drop> Side for ProofSide<'f, 'p, S, T> {
+impl<'f, 'p, S: ChildJudge<T>, T: Settled + Drop> Side for ProofSide<'f, 'p, S, T> {
     type Output = ();
 
-    ghost can_run = { λ s. S.proving s.subject };
+    ghost can_run = { λ s. S.proving s.judge };
 
-    ghost runs = { λ before _ now. JudgedOn (S.proves before.subject) (S.proves now.subject) (S.proving now.subject) (S.proved before.subject ++ before.left.now) (S.proved now.subject ++ now.left.now) now.said };
+    ghost runs = { λ before _ now. JudgedOn (S.proves before.judge) (S.proves now.judge) (S.proving now.judge) (S.proved before.judge ++ before.left.now) (S.proved now.judge ++ now.left.now) now.said };
 
     fn run(&mut self) {
-        self.said = match judge_pieces(self.alloc, self.has_ended, &mut self.subject, self.left) {
+        self.said = match judge_pieces(self.alloc, self.has_ended, &mut self.judge, self.left) {
             Ok(said) => Some(said),
             Err(left) => {
                 self.left = left;
@@ -117,9 +117,9 @@ impl<'f, 'p, S: Subject<T>, T: Settled + Drop> Side for ProofSide<'f, 'p, S, T> 
     }
 }
 
-// What a stint of judging came to: what the file is judged as, or what is left of it; and why the keeper ended the job, if it did.
+// The result of a stint of judging: what the file is judged as, or what is left of it; and why the keeper ended the job, if it did.
 struct Stint<'p, S, T> {
-    subject: S,
+    judge: S,
     left: &'p [u8],
     said: Option<Judged<T>>,
     why: Option<Reason<T>>,
@@ -129,8 +129,8 @@ struct Stint<'p, S, T> {
 fn judge_stint<
     'p,
     R: Threads + Wait + Sync,
-    S: Subject<T>,
-    J: Asks<T> + Sync,
+    S: ChildJudge<T>,
+    J: ForJob<T> + Sync,
     T: Settled + Drop + Send + Sync,
     C: Clock,
 >(
@@ -138,28 +138,28 @@ fn judge_stint<
     alloc: Global,
     watch: &Watch<'_, J, T, C>,
     proof: &'p [u8],
-    subject: S,
+    judge: S,
     notes: &mut Notes<T>,
     keeper_events: &mut EventList<T>,
 ) -> Stint<'p, S, T>
-    requires proving { S.proving subject }
+    requires proving { S.proving judge }
     requires cell { watch.now.terms.now.cell < length watch.now.cells.now }
     requires other { IfSome watch.now.other (λ o. o.0 < length watch.now.cells.now) }
     requires notes { AreNotesOf watch.now.cells.now notes.old }
     requires keeper_room { 2 ≤ keeper_events.old.room }
     requires turns { TakesTurns (keeper_from (terms_of T.job T.answer watch.now.terms.now) keeper.Fresh keeper_events.old.events) }
-    ensures judged { JudgedOn (S.proves subject) (S.proves result.subject) (S.proving result.subject) (S.proved subject ++ proof.now) (S.proved result.subject ++ result.left.now) result.said }
+    ensures judged { JudgedOn (S.proves judge) (S.proves result.judge) (S.proving result.judge) (S.proved judge ++ proof.now) (S.proved result.judge ++ result.left.now) result.said }
     ensures keeper_room { IfNone result.why (2 ≤ keeper_events.new.room) }
     ensures kept { MatchOption result.why (TakesTurns (keeper_from (terms_of T.job T.answer watch.now.terms.now) keeper.Fresh keeper_events.new.events)) (λ why. keeper_from (terms_of T.job T.answer watch.now.terms.now) keeper.Fresh keeper_events.new.events ≡ keeper.Killed why) }
     ensures place { place_from Away keeper_events.new.events ≡ place_from Away keeper_events.old.events }
-    ensures keeps { Keeps (IsOfCell T.problem T.job (J.problem watch.now.asks.now) watch.now.terms.now watch.now.other) (C.may_read watch.now.clock.now) notes.old notes.new keeper_events.old.events keeper_events.new.events }
+    ensures keeps { Keeps (IsOfCell T.problem T.job (J.problem watch.now.problem.now) watch.now.terms.now watch.now.other) (C.may_read watch.now.clock.now) notes.old notes.new keeper_events.old.events keeper_events.new.events }
     ensures reason { IfSome result.why (λ why. EndsChild why × (why ≢ reason.Fault)) }
 {
     let has_ended = AtomicBool::new(false);
     let mut side = ProofSide {
         alloc,
         has_ended: &has_ended,
-        subject,
+        judge,
         left: proof,
         said: None,
     };
@@ -176,19 +176,19 @@ fn judge_stint<
     let ProofSide {
         alloc: _,
         has_ended: _,
-        subject,
+        judge,
         left,
         said,
     } = side;
     Stint {
-        subject,
+        judge,
         left,
         said,
         why: kept.why,
     }
 }
 
-// What the judging of a proof file came to, unless its keeper ended it first; and why the keeper did, if it did.
+// What a proof file is judged as, unless its keeper ended the judging first; and why the keeper did, if it did.
 #[derive(Drop)]
 struct Beside<T> {
     said: Option<Judged<T>>,
@@ -198,8 +198,8 @@ struct Beside<T> {
 // Judges a proof file with the keeper beside it. A stint ends with the file or by the keeper.
 fn judge_beside<
     R: Threads + Wait + Sync,
-    S: Subject<T> + Drop,
-    J: Asks<T> + Sync,
+    S: ChildJudge<T> + Drop,
+    J: ForJob<T> + Sync,
     T: Settled + Drop + Send + Sync,
     C: Clock,
 >(
@@ -207,27 +207,27 @@ fn judge_beside<
     alloc: Global,
     watch: &Watch<'_, J, T, C>,
     proof: &[u8],
-    subject: S,
+    judge: S,
     notes: &mut Notes<T>,
     keeper_events: &mut EventList<T>,
 ) -> Beside<T>
-    requires proving { S.proving subject × (S.proved subject ≡ []) }
+    requires proving { S.proving judge × (S.proved judge ≡ []) }
     requires cell { watch.now.terms.now.cell < length watch.now.cells.now }
     requires other { IfSome watch.now.other (λ o. o.0 < length watch.now.cells.now) }
     requires notes { AreNotesOf watch.now.cells.now notes.old }
     requires keeper_room { 2 ≤ keeper_events.old.room }
     requires turns { TakesTurns (keeper_from (terms_of T.job T.answer watch.now.terms.now) keeper.Fresh keeper_events.old.events) }
-    ensures said { MatchOption result.said (IsSome result.why) (λ p. (p ≢ judged.More) × Says (S.proves subject) proof.now p) }
+    ensures said { MatchOption result.said (IsSome result.why) (λ p. (p ≢ judged.More) × Says (S.proves judge) proof.now p) }
     ensures kept { MatchOption result.why (TakesTurns (keeper_from (terms_of T.job T.answer watch.now.terms.now) keeper.Fresh keeper_events.new.events)) (λ why. keeper_from (terms_of T.job T.answer watch.now.terms.now) keeper.Fresh keeper_events.new.events ≡ keeper.Killed why) }
     ensures place { place_from Away keeper_events.new.events ≡ place_from Away keeper_events.old.events }
-    ensures keeps { Keeps (IsOfCell T.problem T.job (J.problem watch.now.asks.now) watch.now.terms.now watch.now.other) (C.may_read watch.now.clock.now) notes.old notes.new keeper_events.old.events keeper_events.new.events }
+    ensures keeps { Keeps (IsOfCell T.problem T.job (J.problem watch.now.problem.now) watch.now.terms.now watch.now.other) (C.may_read watch.now.clock.now) notes.old notes.new keeper_events.old.events keeper_events.new.events }
     ensures reason { IfSome result.why (λ why. EndsChild why × (why ≢ reason.Fault)) }
 {
-    let mut on = subject;
+    let mut on = judge;
     let mut rest = proof;
     for _ in rt.forever() {
         let Stint {
-            subject,
+            judge,
             left,
             said,
             why,
@@ -235,7 +235,7 @@ fn judge_beside<
         if said.is_some() || why.is_some() {
             return Beside { said, why };
         }
-        on = subject;
+        on = judge;
         rest = left;
     }
     unreachable!()
@@ -308,7 +308,7 @@ fn bytes_of(got: Got) -> Vec<u8>
     }
 }
 
-// What a reader came to by the proof file, and why the keeper ended the job, if it did.
+// The state of a reader after the proof file, and why the keeper ended the job, if it did.
 #[derive(Drop)]
 pub(crate) struct Filed<T> {
     pub(crate) part: Reader<T>,
@@ -318,8 +318,8 @@ pub(crate) struct Filed<T> {
 // Has the proof file judged.
 fn judge_proof<
     R: Threads + Wait + Sync,
-    S: Subject<T> + Drop,
-    J: Asks<T> + Sync,
+    S: ChildJudge<T> + Drop,
+    J: ForJob<T> + Sync,
     T: Settled + Drop + Send + Sync,
     C: Clock,
 >(
@@ -327,14 +327,14 @@ fn judge_proof<
     alloc: Global,
     watch: &Watch<'_, J, T, C>,
     proof: &[u8],
-    subject: S,
+    judge: S,
     notes: &mut Notes<T>,
     events: &mut EventList<T>,
     keeper_events: &mut EventList<T>,
 ) -> Filed<T>
     requires room { 2 ≤ events.old.room }
     requires part { reader_from reader.Fresh events.old.events ≡ reader.Asking }
-    requires awaits { S.awaits subject }
+    requires awaits { S.awaits judge }
     requires cell { watch.now.terms.now.cell < length watch.now.cells.now }
     requires other { IfSome watch.now.other (λ o. o.0 < length watch.now.cells.now) }
     requires notes { AreNotesOf watch.now.cells.now notes.old }
@@ -342,23 +342,23 @@ fn judge_proof<
     requires turns { TakesTurns (keeper_from (terms_of T.job T.answer watch.now.terms.now) keeper.Fresh keeper_events.old.events) }
     ensures part { result.part ≡ reader_from reader.Fresh events.new.events }
     ensures room { (result.part ≡ reader.Short) ⊎ (1 ≤ events.new.room) }
-    ensures judged { JudgedFile (S.proves subject) proof.now (bytes_filed events.old.events) (bytes_filed events.new.events) result.part result.why }
+    ensures judged { JudgedFile (S.proves judge) proof.now (bytes_filed events.old.events) (bytes_filed events.new.events) result.part result.why }
     ensures read { bytes_read events.new.events ≡ bytes_read events.old.events }
     ensures empty { empty_reads events.new.events ≡ empty_reads events.old.events }
     ensures unfailed { result.part ≢ reader.Failed }
     ensures kept { MatchOption result.why (TakesTurns (keeper_from (terms_of T.job T.answer watch.now.terms.now) keeper.Fresh keeper_events.new.events)) (λ why. keeper_from (terms_of T.job T.answer watch.now.terms.now) keeper.Fresh keeper_events.new.events ≡ keeper.Killed why) }
     ensures place { place_from Away keeper_events.new.events ≡ place_from Away keeper_events.old.events }
-    ensures keeps { Keeps (IsOfCell T.problem T.job (J.problem watch.now.asks.now) watch.now.terms.now watch.now.other) (C.may_read watch.now.clock.now) notes.old notes.new keeper_events.old.events keeper_events.new.events }
+    ensures keeps { Keeps (IsOfCell T.problem T.job (J.problem watch.now.problem.now) watch.now.terms.now watch.now.other) (C.may_read watch.now.clock.now) notes.old notes.new keeper_events.old.events keeper_events.new.events }
     ensures reason { IfSome result.why (λ why. EndsChild why × (why ≢ reason.Fault)) }
 {
-    let mut subject = subject;
-    if subject.open_proof(alloc).is_err() {
+    let mut judge = judge;
+    if judge.open_proof(alloc).is_err() {
         return Filed {
             part: enter_memory(events),
             why: None,
         };
     }
-    let Beside { said, why } = judge_beside(rt, alloc, watch, proof, subject, notes, keeper_events);
+    let Beside { said, why } = judge_beside(rt, alloc, watch, proof, judge, notes, keeper_events);
     let part = match said {
         Some(said) => enter_file(events, proof.len() as u64, said),
         None => Reader::Asking,
@@ -370,8 +370,8 @@ fn judge_proof<
 pub(crate) fn read_proof<
     R: Threads + Wait + Sync,
     L: Launch,
-    S: Subject<T> + Drop,
-    J: Asks<T> + Sync,
+    S: ChildJudge<T> + Drop,
+    J: ForJob<T> + Sync,
     T: Settled + Drop + Send + Sync,
     C: Clock,
 >(
@@ -380,14 +380,14 @@ pub(crate) fn read_proof<
     berth: &mut Berth<'_, L>,
     asked: &Asked<'_>,
     watch: &Watch<'_, J, T, C>,
-    subject: S,
+    judge: S,
     notes: &mut Notes<T>,
     events: &mut EventList<T>,
     keeper_events: &mut EventList<T>,
 ) -> Filed<T>
     requires room { 1 ≤ events.old.room }
     requires part { reader_from reader.Fresh events.old.events ≡ reader.Asking }
-    requires awaits { S.awaits subject }
+    requires awaits { S.awaits judge }
     requires unfiled { bytes_filed events.old.events ≡ 0 }
     requires cell { watch.now.terms.now.cell < length watch.now.cells.now }
     requires other { IfSome watch.now.other (λ o. o.0 < length watch.now.cells.now) }
@@ -396,7 +396,7 @@ pub(crate) fn read_proof<
     requires turns { TakesTurns (keeper_from (terms_of T.job T.answer watch.now.terms.now) keeper.Fresh keeper_events.old.events) }
     ensures part { result.part ≡ reader_from reader.Fresh events.new.events }
     ensures room { (result.part ≡ reader.Short) ⊎ (1 ≤ events.new.room) }
-    ensures asks { Asks (S.proves subject) (L.told berth.old.bay) asked.now.job asked.now.most result.why reader.Asking result.part (bytes_filed events.new.events) }
+    ensures asks { Asks (S.proves judge) (L.told berth.old.bay) asked.now.job asked.now.most result.why reader.Asking result.part (bytes_filed events.new.events) }
     ensures read { bytes_read events.new.events ≡ bytes_read events.old.events }
     ensures empty { empty_reads events.new.events ≡ empty_reads events.old.events }
     ensures failed { result.part ≡ reader.Failed → Rose (L.read_faults berth.old.bay) (L.read_faults berth.new.bay) }
@@ -405,7 +405,7 @@ pub(crate) fn read_proof<
     ensures counts { (L.start_faults berth.new.bay ≡ L.start_faults berth.old.bay) × (L.hold_faults berth.new.bay ≡ L.hold_faults berth.old.bay) × (L.read_faults berth.old.bay ≤ L.read_faults berth.new.bay) }
     ensures kept { MatchOption result.why (TakesTurns (keeper_from (terms_of T.job T.answer watch.now.terms.now) keeper.Fresh keeper_events.new.events)) (λ why. keeper_from (terms_of T.job T.answer watch.now.terms.now) keeper.Fresh keeper_events.new.events ≡ keeper.Killed why) }
     ensures place { place_from Away keeper_events.new.events ≡ place_from Away keeper_events.old.events }
-    ensures keeps { Keeps (IsOfCell T.problem T.job (J.problem watch.now.asks.now) watch.now.terms.now watch.now.other) (C.may_read watch.now.clock.now) notes.old notes.new keeper_events.old.events keeper_events.new.events }
+    ensures keeps { Keeps (IsOfCell T.problem T.job (J.problem watch.now.problem.now) watch.now.terms.now watch.now.other) (C.may_read watch.now.clock.now) notes.old notes.new keeper_events.old.events keeper_events.new.events }
     ensures reason { IfSome result.why (λ why. EndsChild why × (why ≢ reason.Fault)) }
 {
     if events.take_room(2).is_err() {
@@ -430,7 +430,7 @@ pub(crate) fn read_proof<
                 alloc,
                 watch,
                 bytes.as_slice(),
-                subject,
+                judge,
                 notes,
                 events,
                 keeper_events,

@@ -9,8 +9,8 @@ ghost use Rattle.race_core.specs.declared.part.By.TheVariants as by;
 ghost use Rattle.race_core.specs.declared.part.Reader.TheVariants as reader;
 ghost use Rattle.sby_edge.specs.Child.{PipeOf};
 
+use crate::child_judge::ChildJudge;
 use crate::entering::enter;
-use crate::subject::Subject;
 use race_core::{By, EventList, Judged, LaneEvent, Reader};
 use sby_edge::Pipe;
 use sby_terms::Settled;
@@ -122,40 +122,40 @@ fn enter_read<T: Settled + Drop>(
 }
 
 // One read.
-fn read_once<P: Pipe, S: Subject<T>, T: Settled + Drop>(
+fn read_once<P: Pipe, S: ChildJudge<T>, T: Settled + Drop>(
     alloc: Global,
     pipe: &mut P,
-    subject: &mut S,
+    judge: &mut S,
     buffer: &mut [u8],
     events: &mut EventList<T>,
 ) -> Reader<T>
     requires buffer { (0 < length buffer.old) × (length buffer.old < 2 ^ 32) }
     requires room { 3 ≤ events.old.room }
     requires reads { ReadsOn (reader_from reader.Fresh events.old.events) }
-    requires goes_on { S.goes_on subject.old }
+    requires goes_on { S.goes_on judge.old }
     requires unended { empty_reads events.old.events ≡ 0 }
     ensures part { result ≡ reader_from reader.Fresh events.new.events }
     ensures unended { ReadsOn result → empty_reads events.new.events ≡ 0 }
     ensures ended { ReadsOn result ⊎ HasRead result }
     ensures room { 1 ≤ events.new.room }
-    ensures goes_on { ReadsOn result → S.goes_on subject.new × Within (S.stands subject.new) (S.stands subject.old) × Within (S.ends subject.new) (S.ends subject.old) }
-    ensures awaits { result ≡ reader.Asking → S.awaits subject.new }
-    ensures proves { Within (S.proves subject.new) (S.proves subject.old) }
-    ensures most { (S.most subject.new ≡ S.most subject.old) × (ReadsOn result → length (S.taken subject.new) ≤ S.most subject.old) }
-    ensures piece { length (S.taken subject.new) ≤ length (S.taken subject.old) + length buffer.old }
+    ensures goes_on { ReadsOn result → S.goes_on judge.new × Within (S.stands judge.new) (S.stands judge.old) × Within (S.ends judge.new) (S.ends judge.old) }
+    ensures awaits { result ≡ reader.Asking → S.awaits judge.new }
+    ensures proves { Within (S.proves judge.new) (S.proves judge.old) }
+    ensures most { (S.most judge.new ≡ S.most judge.old) × (ReadsOn result → length (S.taken judge.new) ≤ S.most judge.old) }
+    ensures piece { length (S.taken judge.new) ≤ length (S.taken judge.old) + length buffer.old }
     ensures buffer { length buffer.new ≡ length buffer.old }
-    ensures so_far { (start : Option PipeOf) → ReadSoFar start (P.told pipe.old) (S.taken subject.old) events.old.events
-        → ReadSoFar start (P.told pipe.new) (S.taken subject.new) events.new.events }
+    ensures so_far { (start : Option PipeOf) → ReadSoFar start (P.told pipe.old) (S.taken judge.old) events.old.events
+        → ReadSoFar start (P.told pipe.new) (S.taken judge.new) events.new.events }
     ensures failed { result ≡ reader.Failed → 0 < P.faults pipe.new }
-    ensures comes { Comes (S.stands subject.old) (S.ends subject.old) (S.proves subject.old) (NoneLeft (P.told pipe.new)) (S.taken subject.new) [] result }
+    ensures comes { Comes (S.stands judge.old) (S.ends judge.old) (S.proves judge.old) (NoneLeft (P.told pipe.new)) (S.taken judge.new) [] result }
 {
     let Ok(count) = pipe.read(buffer) else {
         return enter_read(events, 0, Judged::Failed);
     };
     let progress = if count == 0 {
-        subject.end(alloc)
+        judge.end(alloc)
     } else {
-        subject.feed(alloc, buffer.split_at(count).0)
+        judge.feed(alloc, buffer.split_at(count).0)
     };
     enter_read(events, count as u64, progress)
 }
@@ -168,67 +168,67 @@ fn buffer_of(alloc: Global, size: usize) -> Result<Vec<u8>, AllocError>
 }
 
 // One read, with the room for what it may enter.
-fn read_within<P: Pipe, S: Subject<T>, T: Settled + Drop>(
+fn read_within<P: Pipe, S: ChildJudge<T>, T: Settled + Drop>(
     alloc: Global,
     pipe: &mut P,
-    subject: &mut S,
+    judge: &mut S,
     buffer: &mut [u8],
     events: &mut EventList<T>,
 ) -> Reader<T>
     requires buffer { (0 < length buffer.old) × (length buffer.old < 2 ^ 32) }
     requires room { 1 ≤ events.old.room }
     requires reads { ReadsOn (reader_from reader.Fresh events.old.events) }
-    requires goes_on { S.goes_on subject.old }
+    requires goes_on { S.goes_on judge.old }
     requires unended { empty_reads events.old.events ≡ 0 }
     ensures part { result ≡ reader_from reader.Fresh events.new.events }
     ensures unended { ReadsOn result → empty_reads events.new.events ≡ 0 }
     ensures ended { ReadsOn result ⊎ HasRead result }
     ensures room { (result ≡ reader.Short) ⊎ (1 ≤ events.new.room) }
-    ensures goes_on { ReadsOn result → S.goes_on subject.new × Within (S.stands subject.new) (S.stands subject.old) × Within (S.ends subject.new) (S.ends subject.old) }
-    ensures awaits { result ≡ reader.Asking → S.awaits subject.new }
-    ensures proves { Within (S.proves subject.new) (S.proves subject.old) }
-    ensures most { (S.most subject.new ≡ S.most subject.old) × (ReadsOn result → length (S.taken subject.new) ≤ S.most subject.old) }
-    ensures piece { length (S.taken subject.new) ≤ length (S.taken subject.old) + length buffer.old }
+    ensures goes_on { ReadsOn result → S.goes_on judge.new × Within (S.stands judge.new) (S.stands judge.old) × Within (S.ends judge.new) (S.ends judge.old) }
+    ensures awaits { result ≡ reader.Asking → S.awaits judge.new }
+    ensures proves { Within (S.proves judge.new) (S.proves judge.old) }
+    ensures most { (S.most judge.new ≡ S.most judge.old) × (ReadsOn result → length (S.taken judge.new) ≤ S.most judge.old) }
+    ensures piece { length (S.taken judge.new) ≤ length (S.taken judge.old) + length buffer.old }
     ensures buffer { length buffer.new ≡ length buffer.old }
-    ensures so_far { (start : Option PipeOf) → ReadSoFar start (P.told pipe.old) (S.taken subject.old) events.old.events
-        → ReadSoFar start (P.told pipe.new) (S.taken subject.new) events.new.events }
+    ensures so_far { (start : Option PipeOf) → ReadSoFar start (P.told pipe.old) (S.taken judge.old) events.old.events
+        → ReadSoFar start (P.told pipe.new) (S.taken judge.new) events.new.events }
     ensures failed { result ≡ reader.Failed → 0 < P.faults pipe.new }
-    ensures comes { Comes (S.stands subject.old) (S.ends subject.old) (S.proves subject.old) (NoneLeft (P.told pipe.new)) (S.taken subject.new) [] result }
+    ensures comes { Comes (S.stands judge.old) (S.ends judge.old) (S.proves judge.old) (NoneLeft (P.told pipe.new)) (S.taken judge.new) [] result }
 {
     if events.take_room(ROOM).is_err() {
         enter(events, LaneEvent::ReaderMemory);
         return Reader::Short;
     }
-    read_once(alloc, pipe, subject, buffer, events)
+    read_once(alloc, pipe, judge, buffer, events)
 }
 
-// Reads until the output comes to something, ends or can't be read, or memory runs out.
-pub(crate) fn read_out<R: Wait, P: Pipe, S: Subject<T>, T: Settled + Drop>(
+// Reads until the output is judged, ends or can't be read, or memory runs out.
+pub(crate) fn read_out<R: Wait, P: Pipe, S: ChildJudge<T>, T: Settled + Drop>(
     rt: &R,
     alloc: Global,
     pipe: &mut P,
-    subject: &mut S,
+    judge: &mut S,
     events: &mut EventList<T>,
 ) -> Reader<T>
-    requires fresh { (S.taken subject.old ≡ []) × (events.old.events ≡ []) }
+    requires fresh { (S.taken judge.old ≡ []) × (events.old.events ≡ []) }
     requires room { 1 ≤ events.old.room }
-    requires goes_on { S.goes_on subject.old }
+    requires goes_on { S.goes_on judge.old }
     ensures part { result ≡ reader_of (record { reader = events.new.events; keeper = [] }) }
     ensures room { (result ≡ reader.Short) ⊎ (1 ≤ events.new.room) }
     ensures has_read { HasRead result }
-    ensures awaits { result ≡ reader.Asking → S.awaits subject.new }
-    ensures proves { Within (S.proves subject.new) (S.proves subject.old) }
-    ensures most { length (S.taken subject.new) ≤ S.most subject.old + 2 ^ 16 }
-    ensures so_far { ReadSoFar (P.told pipe.old) (P.told pipe.new) (S.taken subject.new) events.new.events }
+    ensures awaits { result ≡ reader.Asking → S.awaits judge.new }
+    ensures proves { Within (S.proves judge.new) (S.proves judge.old) }
+    ensures most { length (S.taken judge.new) ≤ S.most judge.old + 2 ^ 16 }
+    ensures so_far { ReadSoFar (P.told pipe.old) (P.told pipe.new) (S.taken judge.new) events.new.events }
     ensures failed { result ≡ reader.Failed → 0 < P.faults pipe.new }
-    ensures comes { Comes (S.stands subject.old) (S.ends subject.old) (S.proves subject.old) (NoneLeft (P.told pipe.new)) (S.taken subject.new) [] result }
+    ensures comes { Comes (S.stands judge.old) (S.ends judge.old) (S.proves judge.old) (NoneLeft (P.told pipe.new)) (S.taken judge.new) [] result }
 {
     let Ok(mut buffer) = buffer_of(alloc, PIECE) else {
         enter(events, LaneEvent::ReaderMemory);
         return Reader::Short;
     };
     for _ in rt.forever() {
-        let part = read_within(alloc, pipe, subject, &mut buffer, events);
+        let part = read_within(alloc, pipe, judge, &mut buffer, events);
         match part {
             Reader::Fresh | Reader::Reading => {}
             part => return part,

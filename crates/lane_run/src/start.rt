@@ -19,13 +19,13 @@ ghost use Rattle.race_core.specs.declared.part.Reader.TheVariants as reader;
 ghost use Rattle.sby_edge.specs.Cause.{Rose};
 ghost use Rattle.sby_edge.specs.Child.{StartOf};
 
+use crate::child_judge::{ChildJudge, ForJob};
 use crate::entering::enter;
-use crate::job::{Ran, run_started};
+use crate::job::{JobRun, run_started};
 use crate::keeper::{Watch, enter_plain, twice};
-use crate::making::{Child, Makes};
+use crate::making::{Child, LaneFactory};
 use crate::over::Asked;
 use crate::placing::{enter_place, give_place};
-use crate::subject::{Asks, Subject};
 use crate::waiting::wait_place;
 use lane_berth::Berth;
 use race_cells::Notes;
@@ -38,7 +38,7 @@ use std::thread::Threads;
 
 // Two copies of what the cell at a place has, where that skips the job: one for the list, one for the end.
 #[tactic(auto, using(crate::proofs::Keepers::learns_remember, crate::proofs::Keepers::learns_known))]
-fn skipping_at<J: Asks<T>, T: Settled + Drop, C: Clock>(
+fn skipping_at<J: ForJob<T>, T: Settled + Drop, C: Clock>(
     watch: &Watch<'_, J, T, C>,
     place: u32,
     job: JobName,
@@ -48,17 +48,17 @@ fn skipping_at<J: Asks<T>, T: Settled + Drop, C: Clock>(
     requires notes { AreNotesOf watch.now.cells.now notes.old }
     ensures notes { Remember notes.old notes.new }
     ensures found { IfSome result (λ copies. IfOk copies (λ c. (c.0 ≡ c.1) × (known_at notes.new place ≡ Some c.0)
-        × (T.problem c.0 ≡ J.problem watch.now.asks.now) × (T.job c.0 ≡ job) × (is_skipped T.job T.answer watch.now.terms.now c.0 ≡ true))) }
+        × (T.problem c.0 ≡ J.problem watch.now.problem.now) × (T.job c.0 ≡ job) × (is_skipped T.job T.answer watch.now.terms.now c.0 ≡ true))) }
 {
     let value = watch.cells.look(place, notes)?;
-    if !watch.asks.is_for(value, job) || !watch.terms.is_skipped_by(value) {
+    if !watch.problem.is_for(value, job) || !watch.terms.is_skipped_by(value) {
         return None;
     }
     Some(twice(value))
 }
 
-// The end of a job that what the cell at a place has skips, or for whose copies memory runs out.
-fn skip<J: Asks<T>, T: Settled + Drop, C: Clock>(
+// Ends a job that the finding in the cell at a place skips, or whose copies of that finding ran out of memory.
+fn skip<J: ForJob<T>, T: Settled + Drop, C: Clock>(
     watch: &Watch<'_, J, T, C>,
     place: u32,
     copies: Result<(T, T), AllocError>,
@@ -67,14 +67,14 @@ fn skip<J: Asks<T>, T: Settled + Drop, C: Clock>(
 ) -> JobEnd<T>
     requires room { 1 ≤ events.old.room }
     requires skipped { IfOk copies (λ c. (c.0 ≡ c.1) × (is_skipped T.job T.answer watch.now.terms.now c.0 ≡ true)) }
-    requires found { IfOk copies (λ c. (known_at notes.now place ≡ Some c.0) × IsOfCell T.problem T.job (J.problem watch.now.asks.now) watch.now.terms.now watch.now.other place c.0) }
+    requires found { IfOk copies (λ c. (known_at notes.now place ≡ Some c.0) × IsOfCell T.problem T.job (J.problem watch.now.problem.now) watch.now.terms.now watch.now.other place c.0) }
     requires before { (keeper_from (terms_of T.job T.answer watch.now.terms.now) keeper.Fresh events.old.events ≡ keeper.Fresh)
         ⊎ ((keeper_from (terms_of T.job T.answer watch.now.terms.now) keeper.Fresh events.old.events ≡ keeper.Looked) × (place ≢ watch.now.terms.now.cell)) }
     ensures end { NoStart result × (keeper_from (terms_of T.job T.answer watch.now.terms.now) keeper.Fresh events.new.events ≢ keeper.Fresh) × RightKeeper (keeper_from (terms_of T.job T.answer watch.now.terms.now) keeper.Fresh events.new.events)
         × EndIs (terms_of T.job T.answer watch.now.terms.now) (λ _. ⊥) reader.Fresh (keeper_from (terms_of T.job T.answer watch.now.terms.now) keeper.Fresh events.new.events) result }
     ensures room { events.new.room + 1 ≡ events.old.room }
     ensures place { place_from Away events.new.events ≡ place_from Away events.old.events }
-    ensures keeps { Keeps (IsOfCell T.problem T.job (J.problem watch.now.asks.now) watch.now.terms.now watch.now.other) (C.may_read watch.now.clock.now) notes.now notes.now events.old.events events.new.events }
+    ensures keeps { Keeps (IsOfCell T.problem T.job (J.problem watch.now.problem.now) watch.now.terms.now watch.now.other) (C.may_read watch.now.clock.now) notes.now notes.now events.old.events events.new.events }
 {
     match copies {
         Ok((known, value)) => {
@@ -95,7 +95,7 @@ fn skip<J: Asks<T>, T: Settled + Drop, C: Clock>(
 }
 
 // A look at one cell before the start. Its answer is the end of a job that isn't started.
-fn look_before<J: Asks<T>, T: Settled + Drop, C: Clock>(
+fn look_before<J: ForJob<T>, T: Settled + Drop, C: Clock>(
     watch: &Watch<'_, J, T, C>,
     place: u32,
     job: JobName,
@@ -105,7 +105,7 @@ fn look_before<J: Asks<T>, T: Settled + Drop, C: Clock>(
     requires place { place < length watch.now.cells.now }
     requires notes { AreNotesOf watch.now.cells.now notes.old }
     requires room { 1 ≤ events.old.room }
-    requires of_cell { (f : T) → T.problem f ≡ J.problem watch.now.asks.now → T.job f ≡ job → IsOfCell T.problem T.job (J.problem watch.now.asks.now) watch.now.terms.now watch.now.other place f }
+    requires of_cell { (f : T) → T.problem f ≡ J.problem watch.now.problem.now → T.job f ≡ job → IsOfCell T.problem T.job (J.problem watch.now.problem.now) watch.now.terms.now watch.now.other place f }
     requires before { (keeper_from (terms_of T.job T.answer watch.now.terms.now) keeper.Fresh events.old.events ≡ keeper.Fresh)
         ⊎ ((keeper_from (terms_of T.job T.answer watch.now.terms.now) keeper.Fresh events.old.events ≡ keeper.Looked) × (place ≢ watch.now.terms.now.cell)) }
     ensures end { MatchOption result (keeper_from (terms_of T.job T.answer watch.now.terms.now) keeper.Fresh events.new.events ≡ keeper.Looked)
@@ -113,7 +113,7 @@ fn look_before<J: Asks<T>, T: Settled + Drop, C: Clock>(
         × EndIs (terms_of T.job T.answer watch.now.terms.now) (λ _. ⊥) reader.Fresh (keeper_from (terms_of T.job T.answer watch.now.terms.now) keeper.Fresh events.new.events) e) }
     ensures room { events.new.room + 1 ≡ events.old.room }
     ensures place { place_from Away events.new.events ≡ place_from Away events.old.events }
-    ensures keeps { Keeps (IsOfCell T.problem T.job (J.problem watch.now.asks.now) watch.now.terms.now watch.now.other) (C.may_read watch.now.clock.now) notes.old notes.new events.old.events events.new.events }
+    ensures keeps { Keeps (IsOfCell T.problem T.job (J.problem watch.now.problem.now) watch.now.terms.now watch.now.other) (C.may_read watch.now.clock.now) notes.old notes.new events.old.events events.new.events }
 {
     let Some(copies) = skipping_at(watch, place, job, notes) else {
         enter_plain(
@@ -131,7 +131,7 @@ fn look_before<J: Asks<T>, T: Settled + Drop, C: Clock>(
 }
 
 // The looks at the cells of the slices before a slice. One that shows nothing isn't entered.
-fn look_at_slices<J: Asks<T>, T: Settled + Drop, C: Clock>(
+fn look_at_slices<J: ForJob<T>, T: Settled + Drop, C: Clock>(
     watch: &Watch<'_, J, T, C>,
     notes: &mut Notes<T>,
     events: &mut EventList<T>,
@@ -145,7 +145,7 @@ fn look_at_slices<J: Asks<T>, T: Settled + Drop, C: Clock>(
         × EndIs (terms_of T.job T.answer watch.now.terms.now) (λ _. ⊥) reader.Fresh (keeper_from (terms_of T.job T.answer watch.now.terms.now) keeper.Fresh events.new.events) e) }
     ensures room { events.old.room ≤ events.new.room + 1 }
     ensures place { place_from Away events.new.events ≡ place_from Away events.old.events }
-    ensures keeps { Keeps (IsOfCell T.problem T.job (J.problem watch.now.asks.now) watch.now.terms.now watch.now.other) (C.may_read watch.now.clock.now) notes.old notes.new events.old.events events.new.events }
+    ensures keeps { Keeps (IsOfCell T.problem T.job (J.problem watch.now.problem.now) watch.now.terms.now watch.now.other) (C.may_read watch.now.clock.now) notes.old notes.new events.old.events events.new.events }
 {
     let JobName::Base(_) = watch.terms.job else {
         return None;
@@ -158,10 +158,10 @@ fn look_at_slices<J: Asks<T>, T: Settled + Drop, C: Clock>(
     None
 }
 
-/// The looks before a job's start: at its own cell, then at the other one, or at those of the slices before a slice. The answer is the
-/// end of a job that isn't started: it is skipped, by a finding that makes it needless or is that an earlier slice is Sat, or memory was
-/// wanting.
-pub fn look_first<J: Asks<T>, T: Settled + Drop, C: Clock>(
+/// Looks before a job's start: at its own cell, then at the other one, or at those of the slices before a slice. Returns the end of a
+/// job that isn't started: it is skipped, by a finding that makes it needless or is that an earlier slice is Sat, or it ran out of
+/// memory.
+pub fn look_first<J: ForJob<T>, T: Settled + Drop, C: Clock>(
     watch: &Watch<'_, J, T, C>,
     notes: &mut Notes<T>,
     events: &mut EventList<T>,
@@ -175,7 +175,7 @@ pub fn look_first<J: Asks<T>, T: Settled + Drop, C: Clock>(
         × EndIs (terms_of T.job T.answer watch.now.terms.now) (λ _. ⊥) reader.Fresh (keeper_from (terms_of T.job T.answer watch.now.terms.now) keeper.Fresh events.new.events) e) }
     ensures room { events.old.room ≤ events.new.room + 2 }
     ensures place { place_from Away events.new.events ≡ Away }
-    ensures keeps { Keeps (IsOfCell T.problem T.job (J.problem watch.now.asks.now) watch.now.terms.now watch.now.other) (C.may_read watch.now.clock.now) notes.old notes.new events.old.events events.new.events }
+    ensures keeps { Keeps (IsOfCell T.problem T.job (J.problem watch.now.problem.now) watch.now.terms.now watch.now.other) (C.may_read watch.now.clock.now) notes.old notes.new events.old.events events.new.events }
 {
     let terms = watch.terms;
     if let Some(end) = look_before(watch, terms.cell, terms.job, notes, events) {
@@ -188,7 +188,7 @@ pub fn look_first<J: Asks<T>, T: Settled + Drop, C: Clock>(
 }
 
 /// Enters that memory ran out before a job's start, and answers the job's end.
-pub fn want<J: Asks<T>, T: Settled + Drop, C: Clock>(
+pub fn want<J: ForJob<T>, T: Settled + Drop, C: Clock>(
     watch: &Watch<'_, J, T, C>,
     notes: &Notes<T>,
     events: &mut EventList<T>,
@@ -200,14 +200,14 @@ pub fn want<J: Asks<T>, T: Settled + Drop, C: Clock>(
     ensures looked { keeper_from (terms_of T.job T.answer watch.now.terms.now) keeper.Fresh events.new.events ≢ keeper.Fresh }
     ensures is { result ≡ end.Memory }
     ensures place { place_from Away events.new.events ≡ place_from Away events.old.events }
-    ensures keeps { Keeps (IsOfCell T.problem T.job (J.problem watch.now.asks.now) watch.now.terms.now watch.now.other) (C.may_read watch.now.clock.now) notes.now notes.now events.old.events events.new.events }
+    ensures keeps { Keeps (IsOfCell T.problem T.job (J.problem watch.now.problem.now) watch.now.terms.now watch.now.other) (C.may_read watch.now.clock.now) notes.now notes.now events.old.events events.new.events }
 {
     enter_plain(watch, notes, events, LaneEvent::KeeperMemory);
     JobEnd::Memory
 }
 
-// The same of a job that has a place.
-fn want_placed<L: Launch, J: Asks<T>, T: Settled + Drop, C: Clock>(
+// Ends a job that has a place and ran out of memory before its child started.
+fn want_placed<L: Launch, J: ForJob<T>, T: Settled + Drop, C: Clock>(
     watch: &Watch<'_, J, T, C>,
     berth: &mut Berth<'_, L>,
     notes: &Notes<T>,
@@ -223,16 +223,16 @@ fn want_placed<L: Launch, J: Asks<T>, T: Settled + Drop, C: Clock>(
     ensures is { result ≡ end.Memory }
     ensures place { place_from Away events.new.events ≡ Away }
     ensures same { berth.new ≡ record berth.old { holds = false } }
-    ensures keeps { Keeps (IsOfCell T.problem T.job (J.problem watch.now.asks.now) watch.now.terms.now watch.now.other) (C.may_read watch.now.clock.now) notes.now notes.now events.old.events events.new.events }
+    ensures keeps { Keeps (IsOfCell T.problem T.job (J.problem watch.now.problem.now) watch.now.terms.now watch.now.other) (C.may_read watch.now.clock.now) notes.now notes.now events.old.events events.new.events }
 {
     give_place(watch, berth, notes, events);
     want(watch, notes, events)
 }
 
 // What a judge finds is for its job.
-fn findings_are_for<S: Subject<T>, T: Settled>(subject: &S)
-    ensures { (bytes : List ℕ) (f : T) → S.stands subject.now bytes (judged.Found f) ⊎ (S.ends subject.now bytes (judged.Found f) ⊎ S.proves subject.now bytes (judged.Found f))
-        → (T.problem f ≡ S.problem subject.now) × (T.job f ≡ S.job subject.now) }
+fn findings_are_for<S: ChildJudge<T>, T: Settled>(judge: &S)
+    ensures { (bytes : List ℕ) (f : T) → S.stands judge.now bytes (judged.Found f) ⊎ (S.ends judge.now bytes (judged.Found f) ⊎ S.proves judge.now bytes (judged.Found f))
+        → (T.problem f ≡ S.problem judge.now) × (T.job f ≡ S.job judge.now) }
 {}
 
 // Starts a child, and runs it.
@@ -240,9 +240,9 @@ fn findings_are_for<S: Subject<T>, T: Settled>(subject: &S)
 fn start_child<
     R: Threads + Wait + Sync,
     L: Launch,
-    S: Subject<T> + Drop,
+    S: ChildJudge<T> + Drop,
     F: JobFile,
-    J: Asks<T> + Sync,
+    J: ForJob<T> + Sync,
     T: Settled + Drop + Send + Sync,
     C: Clock,
 >(
@@ -256,10 +256,10 @@ fn start_child<
     notes: &mut Notes<T>,
     reader_events: EventList<T>,
     keeper_events: &mut EventList<T>,
-) -> Ran<T>
-    requires fresh { (S.taken child.subject ≡ []) × (reader_events.events ≡ []) }
-    requires goes_on { S.goes_on child.subject }
-    requires about { (S.problem child.subject ≡ J.problem watch.now.asks.now) × (S.job child.subject ≡ watch.now.terms.now.job) }
+) -> JobRun<T>
+    requires fresh { (S.taken child.judge ≡ []) × (reader_events.events ≡ []) }
+    requires goes_on { S.goes_on child.judge }
+    requires about { (S.problem child.judge ≡ J.problem watch.now.problem.now) × (S.job child.judge ≡ watch.now.terms.now.job) }
     requires reader_room { 1 ≤ reader_events.room }
     requires cell { watch.now.terms.now.cell < length watch.now.cells.now }
     requires other { IfSome watch.now.other (λ o. o.0 < length watch.now.cells.now) }
@@ -272,13 +272,13 @@ fn start_child<
     ensures right { RightReader (reader_from reader.Fresh result.events.events) × RightKeeper (keeper_from (terms_of T.job T.answer watch.now.terms.now) keeper.Fresh keeper_events.new.events) }
     ensures place { place_from Away keeper_events.new.events ≡ Away }
     ensures same { berth.new ≡ record berth.old { bay = berth.new.bay; holds = false } }
-    ensures keeps { Keeps (IsOfCell T.problem T.job (J.problem watch.now.asks.now) watch.now.terms.now watch.now.other) (C.may_read watch.now.clock.now) notes.old notes.new keeper_events.old.events keeper_events.new.events }
+    ensures keeps { Keeps (IsOfCell T.problem T.job (J.problem watch.now.problem.now) watch.now.terms.now watch.now.other) (C.may_read watch.now.clock.now) notes.old notes.new keeper_events.old.events keeper_events.new.events }
     ensures looked { keeper_from (terms_of T.job T.answer watch.now.terms.now) keeper.Fresh keeper_events.new.events ≢ keeper.Fresh }
     ensures won { IfWon (reader_from reader.Fresh result.events.events) (λ f. known_at notes.new watch.now.terms.now.cell ≡ Some f) }
-    ensures found { (f : T) → HasEnd (reader_from reader.Fresh result.events.events) (end.Found f) → (T.problem f ≡ J.problem watch.now.asks.now) × (T.job f ≡ watch.now.terms.now.job) }
+    ensures found { (f : T) → HasEnd (reader_from reader.Fresh result.events.events) (end.Found f) → (T.problem f ≡ J.problem watch.now.problem.now) × (T.job f ≡ watch.now.terms.now.job) }
     ensures starts { (starts : List StartOf) × (L.told berth.new.bay ≡ option_map (with_starts starts) (L.told berth.old.bay))
         × Starts berth.old.pool watch.now.terms.now.job (map string_bytes child.words.items) (F.bytes file.now)
-        (ReadsScript (S.stands child.subject) (S.ends child.subject) (S.proves child.subject) (L.told berth.old.bay) watch.now.terms.now.job most (S.most child.subject) result.events.events)
+        (ReadsScript (S.stands child.judge) (S.ends child.judge) (S.proves child.judge) (L.told berth.old.bay) watch.now.terms.now.job most (S.most child.judge) result.events.events)
         result.events.events keeper_events.new.events result.end starts }
     ensures start_failed { result.end ≡ end.StartFailed → Rose (L.start_faults berth.old.bay) (L.start_faults berth.new.bay) }
     ensures read_failed { result.end ≡ end.ReadFailed → Rose (L.read_faults berth.old.bay) (L.read_faults berth.new.bay) }
@@ -286,21 +286,21 @@ fn start_child<
     ensures later { (L.start_faults berth.old.bay ≤ L.start_faults berth.new.bay) × (L.read_faults berth.old.bay ≤ L.read_faults berth.new.bay) × (L.hold_faults berth.old.bay ≤ L.hold_faults berth.new.bay) }
 {
     let Child {
-        subject,
+        judge,
         words,
         proof,
     } = child;
-    findings_are_for(&subject);
+    findings_are_for(&judge);
     let job = watch.terms.job;
     match berth.start(alloc, job, words.as_slice(), file) {
         Err(Fail::Failed) => {
             give_place(watch, berth, notes, keeper_events);
-            Ran {
+            JobRun {
                 end: JobEnd::StartFailed,
                 events: reader_events,
             }
         }
-        Err(Fail::Memory) => Ran {
+        Err(Fail::Memory) => JobRun {
             end: want_placed(watch, berth, notes, keeper_events),
             events: reader_events,
         },
@@ -318,7 +318,7 @@ fn start_child<
                 started,
                 &asked,
                 watch,
-                subject,
+                judge,
                 notes,
                 reader_events,
                 keeper_events,
@@ -334,7 +334,7 @@ fn start_child<
 pub fn run_child<
     R: Threads + Wait + Sync,
     L: Launch,
-    M: Makes<T> + Sync,
+    M: LaneFactory<T> + Sync,
     T: Settled + Drop + Send + Sync,
     C: Clock,
 >(
@@ -346,8 +346,8 @@ pub fn run_child<
     notes: &mut Notes<T>,
     reader_events: EventList<T>,
     keeper_events: &mut EventList<T>,
-) -> Ran<T>
-    requires served { M.is_served watch.now.asks.now lane watch.now.terms.now.job }
+) -> JobRun<T>
+    requires served { M.is_served watch.now.problem.now lane watch.now.terms.now.job }
     requires fresh { (reader_events.events ≡ []) × (keeper_events.old.events ≡ []) }
     requires room { (1 ≤ reader_events.room) × (4 ≤ keeper_events.old.room) }
     requires cell { watch.now.terms.now.cell < length watch.now.cells.now }
@@ -358,14 +358,14 @@ pub fn run_child<
     ensures right { RightReader (reader_from reader.Fresh result.events.events) × RightKeeper (keeper_from (terms_of T.job T.answer watch.now.terms.now) keeper.Fresh keeper_events.new.events) }
     ensures place { place_from Away keeper_events.new.events ≡ Away }
     ensures same { berth.new ≡ record berth.old { bay = berth.new.bay } }
-    ensures keeps { Keeps (IsOfCell T.problem T.job (M.problem watch.now.asks.now) watch.now.terms.now watch.now.other) (C.may_read watch.now.clock.now) notes.old notes.new [] keeper_events.new.events }
+    ensures keeps { Keeps (IsOfCell T.problem T.job (M.problem watch.now.problem.now) watch.now.terms.now watch.now.other) (C.may_read watch.now.clock.now) notes.old notes.new [] keeper_events.new.events }
     ensures looked { keeper_from (terms_of T.job T.answer watch.now.terms.now) keeper.Fresh keeper_events.new.events ≢ keeper.Fresh }
     ensures won { IfWon (reader_from reader.Fresh result.events.events) (λ f. known_at notes.new watch.now.terms.now.cell ≡ Some f) }
-    ensures found { (f : T) → HasEnd (reader_from reader.Fresh result.events.events) (end.Found f) → (T.problem f ≡ M.problem watch.now.asks.now) × (T.job f ≡ watch.now.terms.now.job) }
+    ensures found { (f : T) → HasEnd (reader_from reader.Fresh result.events.events) (end.Found f) → (T.problem f ≡ M.problem watch.now.problem.now) × (T.job f ≡ watch.now.terms.now.job) }
     ensures starts { (starts : List StartOf) × (L.told berth.new.bay ≡ option_map (with_starts starts) (L.told berth.old.bay))
-        × Starts berth.old.pool watch.now.terms.now.job (M.words watch.now.asks.now lane watch.now.terms.now.job) (M.file watch.now.asks.now watch.now.terms.now.job)
-        (ReadsScript (M.stands watch.now.asks.now lane watch.now.terms.now.job) (M.ends watch.now.asks.now lane watch.now.terms.now.job) (M.proves watch.now.asks.now lane watch.now.terms.now.job)
-        (L.told berth.old.bay) watch.now.terms.now.job (M.most watch.now.asks.now) (M.most_output watch.now.asks.now lane) result.events.events)
+        × Starts berth.old.pool watch.now.terms.now.job (M.words watch.now.problem.now lane watch.now.terms.now.job) (M.file watch.now.problem.now watch.now.terms.now.job)
+        (ReadsScript (M.stands watch.now.problem.now lane watch.now.terms.now.job) (M.ends watch.now.problem.now lane watch.now.terms.now.job) (M.proves watch.now.problem.now lane watch.now.terms.now.job)
+        (L.told berth.old.bay) watch.now.terms.now.job (M.most watch.now.problem.now) (M.most_output watch.now.problem.now lane) result.events.events)
         result.events.events keeper_events.new.events result.end starts }
     ensures start_failed { result.end ≡ end.StartFailed → Rose (L.start_faults berth.old.bay) (L.start_faults berth.new.bay) }
     ensures read_failed { result.end ≡ end.ReadFailed → Rose (L.read_faults berth.old.bay) (L.read_faults berth.new.bay) }
@@ -373,21 +373,21 @@ pub fn run_child<
     ensures later { (L.start_faults berth.old.bay ≤ L.start_faults berth.new.bay) × (L.read_faults berth.old.bay ≤ L.read_faults berth.new.bay) × (L.hold_faults berth.old.bay ≤ L.hold_faults berth.new.bay) }
 {
     if let Some(end) = look_first(watch, notes, keeper_events) {
-        return Ran {
+        return JobRun {
             end,
             events: reader_events,
         };
     }
     if let Some(end) = wait_place(rt, watch, berth, notes, keeper_events) {
-        return Ran {
+        return JobRun {
             end,
             events: reader_events,
         };
     }
-    let makes = watch.asks;
+    let factory = watch.problem;
     let job = watch.terms.job;
-    let Ok(child) = makes.make(alloc, lane, job) else {
-        return Ran {
+    let Ok(child) = factory.make(alloc, lane, job) else {
+        return JobRun {
             end: want_placed(watch, berth, notes, keeper_events),
             events: reader_events,
         };
@@ -398,8 +398,8 @@ pub fn run_child<
         berth,
         watch,
         child,
-        &makes.file(lane, job),
-        makes.most(),
+        &factory.file(lane, job),
+        factory.most(),
         notes,
         reader_events,
         keeper_events,

@@ -18,7 +18,7 @@ pub struct Limit {
 /// What the lanes of a task share.
 #[derive(Drop)]
 pub struct Task<'a, M, T, C> {
-    pub makes: &'a M,
+    pub factory: &'a M,
     /// One cell for each job.
     pub cells: &'a Cells<T>,
     pub clock: &'a C,

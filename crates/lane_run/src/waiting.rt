@@ -16,10 +16,10 @@ ghost use Rattle.race_core.specs.declared.part.Place.TheVariants.{Away};
 ghost use Rattle.race_core.specs.declared.part.Reader.TheVariants as reader;
 ghost use Rattle.race_core.specs.declared.part.Reason.TheVariants as reason;
 
+use crate::child_judge::ForJob;
 use crate::keeper::{Watch, pause_after, watch_turn};
 use crate::placing::take_place;
 use crate::start::want;
-use crate::subject::Asks;
 use lane_berth::Berth;
 use race_cells::Notes;
 use race_core::{EventList, JobEnd, Reason};
@@ -46,8 +46,8 @@ fn waited<T: Drop>(why: Reason<T>) -> JobEnd<T>
     }
 }
 
-// A turn of a lane that waits. Its answer is what the wait came to, once it is over.
-fn wait_turn<L: Launch, J: Asks<T>, T: Settled + Drop, C: Clock>(
+// Takes a turn of a lane that waits. Returns the result of the wait, once it is over.
+fn wait_turn<L: Launch, J: ForJob<T>, T: Settled + Drop, C: Clock>(
     watch: &Watch<'_, J, T, C>,
     berth: &mut Berth<'_, L>,
     notes: &mut Notes<T>,
@@ -65,7 +65,7 @@ fn wait_turn<L: Launch, J: Asks<T>, T: Settled + Drop, C: Clock>(
         (keeper_from (terms_of T.job T.answer watch.now.terms.now) keeper.Fresh events.new.events) (place_from Away events.new.events) events.new.room came) }
     ensures same { berth.new ≡ record berth.old { holds = berth.new.holds } }
     ensures free { IfNone berth.old.pool (berth.new.holds ≡ false) }
-    ensures keeps { Keeps (IsOfCell T.problem T.job (J.problem watch.now.asks.now) watch.now.terms.now watch.now.other) (C.may_read watch.now.clock.now) notes.old notes.new events.old.events events.new.events }
+    ensures keeps { Keeps (IsOfCell T.problem T.job (J.problem watch.now.problem.now) watch.now.terms.now watch.now.other) (C.may_read watch.now.clock.now) notes.old notes.new events.old.events events.new.events }
 {
     if events.take_room(ROOM).is_err() {
         return Some(Some(want(watch, notes, events)));
@@ -80,7 +80,7 @@ fn wait_turn<L: Launch, J: Asks<T>, T: Settled + Drop, C: Clock>(
 // Waits for a place, where there is an allowance: asks, looks and reads the clock, and pauses. Answers the end of a job that is over before
 // it has one: a look shows it needless, or a reading the limit, or memory ran out.
 #[tactic(auto, using(crate::proofs::PlaceLemmas::holds_alone))]
-pub(crate) fn wait_place<R: Wait, L: Launch, J: Asks<T>, T: Settled + Drop, C: Clock>(
+pub(crate) fn wait_place<R: Wait, L: Launch, J: ForJob<T>, T: Settled + Drop, C: Clock>(
     rt: &R,
     watch: &Watch<'_, J, T, C>,
     berth: &mut Berth<'_, L>,
@@ -98,7 +98,7 @@ pub(crate) fn wait_place<R: Wait, L: Launch, J: Asks<T>, T: Settled + Drop, C: C
         (keeper_from (terms_of T.job T.answer watch.now.terms.now) keeper.Fresh events.new.events) (place_from Away events.new.events) events.new.room result }
     ensures same { berth.new ≡ record berth.old { holds = berth.new.holds } }
     ensures free { IfNone berth.old.pool (berth.new.holds ≡ false) }
-    ensures keeps { Keeps (IsOfCell T.problem T.job (J.problem watch.now.asks.now) watch.now.terms.now watch.now.other) (C.may_read watch.now.clock.now) notes.old notes.new events.old.events events.new.events }
+    ensures keeps { Keeps (IsOfCell T.problem T.job (J.problem watch.now.problem.now) watch.now.terms.now watch.now.other) (C.may_read watch.now.clock.now) notes.old notes.new events.old.events events.new.events }
 {
     let mut paused: u32 = 0;
     for _ in rt.forever() {

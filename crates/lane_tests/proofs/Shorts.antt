@@ -8,7 +8,7 @@ use Rattle.sby_terms.specs.declared.names.JobName.{JobName}
 use Rattle.cert_judge.specs.Fate.{Fate}
 use Rattle.cert_judge.specs.declared.stream.BadCert.{BadCert}
 use Rattle.judge.proofs.StreamFates.{within_most}
-use Rattle.judge.specs.Answers.{Finds, fate_told, state_behind}
+use Rattle.judge.specs.Answers.{Finds, fate_told, state_after}
 use Rattle.judge.specs.Fates.{IsFateSoFar}
 use Rattle.judge.specs.Judging.{Ends, Feeds, JudgeOf}
 use Rattle.judge.specs.Problem.{AskedOf, IsJobFile}
@@ -27,7 +27,7 @@ ours p job bytes (Ok progress.Unknown) finds = tt
 ours p job bytes (Err b) finds = tt
 
 -- where nothing stands yet, the judge reads on
-reads_on : (r : Result Progress BadCert) → judged_as r ≡ judged.More → (state_behind r ≡ Reading) × (fate_told r ≡ None)
+reads_on : (r : Result Progress BadCert) → judged_as r ≡ judged.More → (state_after r ≡ Reading) × (fate_told r ≡ None)
 reads_on (Ok progress.More) h = (refl, refl)
 reads_on (Ok (progress.Done f)) h = absurd cc
 reads_on (Ok progress.Unknown) h = absurd cc

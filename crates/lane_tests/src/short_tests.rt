@@ -16,7 +16,7 @@ use super::tests::{
 };
 use cert_judge::{BadCert, StreamKind};
 use judge::{Finding, Judge, Problem, Progress, State, serves};
-use lane_run::{Asks, Child, Makes, Subject};
+use lane_run::{Child, ChildJudge, ForJob, LaneFactory};
 use race_cells::Cells;
 use race_core::Judged;
 use sby_edge::{Nothing, Scripted, Told, ToldBytes};
@@ -119,7 +119,7 @@ fn short_judge<'a>(
     })
 }
 
-impl<'a> Subject<Finding> for ShortJudge<'a> {
+impl<'a> ChildJudge<Finding> for ShortJudge<'a> {
     ghost use Rattle.lane_tests.specs.Short.{ours_law};
 
     ghost problem = { λ s. s.problem.now.problem };
@@ -180,7 +180,7 @@ struct ShortLanes<'a> {
     most: u64,
 }
 
-impl<'a> Asks<Finding> for ShortLanes<'a> {
+impl<'a> ForJob<Finding> for ShortLanes<'a> {
     ghost problem = { λ l. l.lanes.problem.now.problem };
 
     fn is_for(&self, value: &Finding, job: JobName) -> bool {
@@ -188,10 +188,10 @@ impl<'a> Asks<Finding> for ShortLanes<'a> {
     }
 }
 
-impl<'a> Makes<Finding> for ShortLanes<'a> {
+impl<'a> LaneFactory<Finding> for ShortLanes<'a> {
     ghost use Rattle.std.specs.Prelude.{◌≤◌, ◌^◌, []};
 
-    type Subject = ShortJudge<'a>;
+    type ChildJudge = ShortJudge<'a>;
 
     type File = ProblemFile<'a>;
 
@@ -226,9 +226,9 @@ impl<'a> Makes<Finding> for ShortLanes<'a> {
         _lane: u32,
         job: JobName,
     ) -> Result<Child<ShortJudge<'a>>, AllocError> {
-        let subject = short_judge(alloc, self.lanes.problem, job, self.most)?;
+        let judge = short_judge(alloc, self.lanes.problem, job, self.most)?;
         Ok(Child {
-            subject,
+            judge,
             words: Vec::new(alloc),
             proof: String::new(alloc),
         })
@@ -306,7 +306,7 @@ fn short_course<R: Threads + Wait + SystemClock + Sync>(
         engines: &engines,
         folder: "t",
     };
-    let makes = ShortLanes {
+    let factory = ShortLanes {
         lanes,
         most: row.most,
     };
@@ -315,7 +315,7 @@ fn short_course<R: Threads + Wait + SystemClock + Sync>(
     let mut script = script_of(alloc, "c x\n0\n")?;
     script.stalls = row.stalls;
     script.cut = Some(cut);
-    race_over(rt, alloc, &makes, 1, &cells, FREE, &scripts, &script)
+    race_over(rt, alloc, &factory, 1, &cells, FREE, &scripts, &script)
 }
 
 #[test]

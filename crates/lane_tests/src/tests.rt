@@ -5,7 +5,7 @@ ghost use Rattle.std.specs.Prelude.{◌≡◌, ◌<◌, ◌^◌, IfOk, length};
 use jobs_pool::Pool;
 use judge::{Finding, Problem};
 use lane_berth::Allowance;
-use lane_run::{Limit, Makes, Raced, Task, fresh_lanes, race_fresh};
+use lane_run::{LaneFactory, Limit, Raced, Task, fresh_lanes, race_fresh};
 use race_cells::Cells;
 use race_core::{JobEnd, JobEvents, LaneEvent, Report, answer_among};
 use sby_edge::{
@@ -23,7 +23,7 @@ use task_race::ProblemLanes;
 pub const TURNS: &str =
     "module \\t\n wire input 1 \\clk\n attribute \\init 1'0\n wire \\q\n wire \\d\n cell $not $n\n parameter \\A_SIGNED 0\n parameter \\A_WIDTH 1\n parameter \\Y_WIDTH 1\n connect \\A \\q\n connect \\Y \\d\n end\n cell $dff $r\n parameter \\CLK_POLARITY 1'1\n parameter \\WIDTH 1\n connect \\CLK \\clk\n connect \\D \\d\n connect \\Q \\q\n end\n cell $assert \\a0\n connect \\A \\d\n connect \\EN 1'1\n end\nend\n";
 
-/// The same without an assertion: its job has one variable and the empty clause.
+/// That design without its assertion: its job has one variable and the empty clause.
 pub const EMPTY: &str =
     "module \\t\n wire input 1 \\clk\n attribute \\init 1'0\n wire \\q\n wire \\d\n cell $not $n\n parameter \\A_SIGNED 0\n parameter \\A_WIDTH 1\n parameter \\Y_WIDTH 1\n connect \\A \\q\n connect \\Y \\d\n end\n cell $dff $r\n parameter \\CLK_POLARITY 1'1\n parameter \\WIDTH 1\n connect \\CLK \\clk\n connect \\D \\d\n connect \\Q \\q\n end\nend\n";
 
@@ -242,11 +242,11 @@ fn bays_of<Y: Yard>(alloc: Global, yard: &mut Y, lanes: u32) -> Result<Vec<Y::Ba
 }
 
 // Races the lanes of these bays over one job. Where memory runs out, the bays go back to their yard.
-fn race_bays<R: Threads + Wait + Sync, Y: Yard, C: Clock, M: Makes<Finding> + Sync>(
+fn race_bays<R: Threads + Wait + Sync, Y: Yard, C: Clock, M: LaneFactory<Finding> + Sync>(
     rt: &R,
     alloc: Global,
     yard: &mut Y,
-    makes: &M,
+    factory: &M,
     cells: &Cells<Finding>,
     clock: &C,
     terms: Terms,
@@ -258,7 +258,7 @@ fn race_bays<R: Threads + Wait + Sync, Y: Yard, C: Clock, M: Makes<Finding> + Sy
 {
     let start = clock.now();
     let task = Task {
-        makes,
+        factory,
         cells,
         clock,
         mode: Mode::Bmc,
@@ -277,12 +277,12 @@ fn race_bays<R: Threads + Wait + Sync, Y: Yard, C: Clock, M: Makes<Finding> + Sy
     }
 }
 
-// The same, under the allowance of the terms.
-fn race_under<R: Threads + Wait + Sync, Y: Yard, C: Clock, M: Makes<Finding> + Sync>(
+// Races these lanes in these bays under the allowance of the terms.
+fn race_under<R: Threads + Wait + Sync, Y: Yard, C: Clock, M: LaneFactory<Finding> + Sync>(
     rt: &R,
     alloc: Global,
     yard: &mut Y,
-    makes: &M,
+    factory: &M,
     cells: &Cells<Finding>,
     clock: &C,
     terms: Terms,
@@ -294,7 +294,7 @@ fn race_under<R: Threads + Wait + Sync, Y: Yard, C: Clock, M: Makes<Finding> + S
     let Some(places) = terms.places else {
         let mut alone = Allowance::none();
         let raced = race_bays(
-            rt, alloc, yard, makes, cells, clock, terms, bays, &mut alone,
+            rt, alloc, yard, factory, cells, clock, terms, bays, &mut alone,
         );
         alone.end();
         return raced;
@@ -308,7 +308,7 @@ fn race_under<R: Threads + Wait + Sync, Y: Yard, C: Clock, M: Makes<Finding> + S
         rt,
         alloc,
         yard,
-        makes,
+        factory,
         cells,
         clock,
         terms,
@@ -329,10 +329,10 @@ fn course_of<R: Wait + SystemClock>(raced: &Raced<ScriptBay<'_, R>, Finding>) ->
 }
 
 /// Races these lanes in bays of a yard of scripts.
-pub fn race_over<R: Threads + Wait + SystemClock + Sync, M: Makes<Finding> + Sync>(
+pub fn race_over<R: Threads + Wait + SystemClock + Sync, M: LaneFactory<Finding> + Sync>(
     rt: &R,
     alloc: Global,
-    makes: &M,
+    factory: &M,
     lanes: u32,
     cells: &Cells<Finding>,
     terms: Terms,
@@ -345,9 +345,9 @@ pub fn race_over<R: Threads + Wait + SystemClock + Sync, M: Makes<Finding> + Syn
     let stage = Stage::new(alloc);
     let mut yard = ScriptYard::new(rt, alloc, &stage, scripts, other);
     let bays = bays_of(alloc, &mut yard, lanes)?;
-    match race_under(rt, alloc, &mut yard, makes, cells, &clock, terms, bays) {
+    match race_under(rt, alloc, &mut yard, factory, cells, &clock, terms, bays) {
         Some(raced) => Ok(course_of(&raced)),
-        None => Err(Fail::from("want of memory")),
+        None => Err(Fail::from("out of memory")),
     }
 }
 
@@ -363,11 +363,11 @@ pub fn raced<R: Threads + Wait + SystemClock + Sync>(
     other: &Script,
 ) -> Result<Course, Fail> {
     let engines = engines_of(alloc, kind, lanes)?;
-    let makes = ProblemLanes {
+    let factory = ProblemLanes {
         problem,
         engines: &engines,
         folder: "t",
     };
     let cells = Cells::new(alloc, 1)?;
-    race_over(rt, alloc, &makes, lanes, &cells, terms, scripts, other)
+    race_over(rt, alloc, &factory, lanes, &cells, terms, scripts, other)
 }

@@ -103,7 +103,7 @@ fn read_number<L: Link>(link: &mut L, least: u64, most: u64) -> Result<Option<u6
     Ok(Some(number))
 }
 
-// So many bytes, if there are that many. Memory is taken as they come, so that it costs nothing to announce many.
+// Reads this many bytes, if there are that many. Memory is taken as they come, so that it costs nothing to announce many.
 #[tactic(auto, using(crate::proofs::Fronts::took_none, crate::proofs::Fronts::took_more, crate::proofs::Fronts::receives_out, crate::proofs::Fronts::took_fewer))]
 fn read_bytes<L: Link>(alloc: Global, link: &mut L, count: u64) -> Result<Option<Vec<u8>>, Fail>
     ensures bytes { IfOk result (λ bytes. AreBytes (L.left link.old) (L.left link.new) count (option_map (λ v. v.items) bytes)) }

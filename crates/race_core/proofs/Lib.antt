@@ -5,3 +5,4 @@ mod Collecting
 mod AddedEvents
 mod SharedParts
 mod Places
+pub mod Needless

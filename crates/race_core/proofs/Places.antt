@@ -1,4 +1,4 @@
--- What a place comes to.
+-- The states of a place after its events.
 use Rattle.std.proofs.Common.{◌≡◌, List, [], ◌∷◌, ◌++◌, refl, sym, ap, ◌∙◌}
 use Rattle.race_core.specs.Parts.{place_after, place_from}
 use Rattle.race_core.specs.declared.event.LaneEvent.{LaneEvent}

@@ -1,4 +1,4 @@
--- How a job's end follows from what its reader and its keeper came to.
+-- How a job's end follows from the last states of its reader and its keeper.
 use Rattle.std.specs.Prelude.{◌≡◌, ◌⊎◌, true}
 use Rattle.race_core.specs.Parts.{Terms}
 use Rattle.race_core.specs.declared.end.JobEnd.{JobEnd}
@@ -38,7 +38,7 @@ NoReason (keeper.Due why) = ⊥
 NoReason (keeper.Killed why) = ⊥
 NoReason keeper.Wrong = ⊥
 
--- What a reader came to gives way to the kill: an unknown, or an early end, that came only with the stream's end; so does an output
+-- A reader's result that gives way to the kill: an unknown, or an early end, that came only with the stream's end; so does an output
 -- that ended before its proof file was asked for.
 abbrev pub Yields : {T : Type 0} → Reader T → Type 0
 Yields (reader.Unknown b) = b ≡ by.Close

@@ -1,4 +1,4 @@
--- What the reader and the keeper of a job come to by their events. Each event changes one part alone, so how the two lists are
+-- The states of the reader and the keeper of a job after their events. Each event changes one part alone, so how the two lists are
 -- merged doesn't matter. An event that can't come there makes its part Wrong, which stays.
 use Rattle.std.specs.Prelude.{ℕ, zero, suc, ◌-◌, ◌==◌, Bool, true, false, cond, List, [], ◌∷◌, Option, Some, None}
 use Rattle.std.proofs.Common.{leb, ◌&&◌}
@@ -33,7 +33,7 @@ abbrev pub by_of : ℕ → By
 by_of zero = by.Close
 by_of (suc n) = by.Bytes
 
--- what a reader that goes on comes to, by what it was judged as
+-- the state of a reader that went on, by what it was judged as
 abbrev pub judged : {T : Type 0} → By → Judged T → Reader T
 judged by.Bytes progress.More = reader.Reading
 judged by.Close progress.More = reader.Asking

@@ -1,4 +1,4 @@
--- Room for what a race comes to.
+-- Room for the outcome of a race.
 use Rattle.std.specs.Prelude.{◌≡◌, ◌≤◌, ◌*◌, ℕ, [], vec_capacity}
 use Rattle.race_core.specs.declared.status.Room.{Room}
 

@@ -1,4 +1,4 @@
-// What the reports of a race come to.
+// What follows from the reports of a race: answers, printing lanes and the status.
 
 ghost use Rattle.race_core.specs.Asking.{name_at};
 ghost use Rattle.race_core.specs.Carrying.{Carries};

@@ -75,7 +75,7 @@ fn events_of<T: Drop>(
     events
 }
 
-/// What the reports of a task come to.
+/// What follows from the reports of a task.
 #[derive(Drop)]
 pub struct Outcome {
     /// The answer of each job that is settled.
@@ -85,7 +85,7 @@ pub struct Outcome {
     pub status: Status,
 }
 
-/// Room for what the reports of a race come to. It is made before the race, so that nothing is lost where memory runs out after it.
+/// Room for the outcome of a race's reports. It is made before the race, so that nothing is lost where memory runs out after it.
 #[derive(Drop)]
 pub struct Room {
     answers: Vec<Option<Answer>>,

@@ -22,7 +22,7 @@ pub struct JobTerms {
     pub limit: Option<u64>,
 }
 
-/// What the parts of a lane's job have come to.
+/// The state of the parts of a lane's job.
 #[derive(Drop)]
 pub struct LaneState<T> {
     pub terms: JobTerms,

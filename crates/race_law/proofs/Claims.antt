@@ -111,7 +111,7 @@ module _ {T : Type 0} (IsFor : ℕ → T → Type 0) (Fatal : ℕ → T → Type
     | inr fatal ↦ inr (a, b, c, f, al, bl, carried, for, fatal)
   ]
 
-  -- after a kill the job is had
+  -- after a kill the job, or one that decides the task without it, is settled
   killed-race : (i j : ℕ) → IsKilled (keeper_of (race.terms j) (w.events i j)) → RaceHas IsFor Fatal race ends j
   killed-race i j killed = elim (killed-known (ends_job (race.terms j)) w.cells ⊥ (keeper_of (race.terms j) (w.events i j)) (inv.seat i j).keeper killed) [
     | inl k ↦
@@ -123,7 +123,7 @@ module _ {T : Type 0} (IsFor : ℕ → T → Type 0) (Fatal : ℕ → T → Type
     | inr n ↦ absurd n
   ]
 
-  -- the end of a job is Plain's, or the job is had
+  -- the end of a job is Plain's, or the job, or one that decides the task without it, is settled
   end-plain : (i j : ℕ) → i < race.lanes → j < race.jobs → (script : Option (Script T)) (e : JobEnd T) → script ≡ race.script i j → e ≡ ends i j
       → EndOf script (race.terms j) (KnewBy (w.events i) j) (w.events i j) e → IsCalm e → (e ≡ plain_end script) ⊎ RaceHas IsFor Fatal race ends j
   end-plain i j il jl (Some s) (end.Found g) same e h calm = inr (inl (i, j, g, il, jl, subst (λ x. Carries x g) e refl, (own-has i j g h).0))

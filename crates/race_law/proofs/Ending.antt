@@ -1,4 +1,4 @@
--- What the ends of a quiet run come to is what Plain comes to.
+-- The ends of a quiet run have the outcome of Plain's ends.
 use Rattle.race_core.specs.Carrying.{Looked}
 use Rattle.std.proofs.Common.{◌≡◌, ◌⊎◌, ℕ, ◌<◌, Bool, true, List, [], ◌∷◌, Option, Some, None, refl, sym, ap, ◌∙◌, subst, inl, inr, arith}
 use Rattle.race_core.specs.Parts.{Terms}

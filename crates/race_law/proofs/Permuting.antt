@@ -1,4 +1,4 @@
--- The same reports in another order come to the same.
+-- The same reports in another order have the same outcome.
 use Rattle.race_core.specs.Asking.{name_at}
 use Rattle.race_core.specs.Told.{Decided}
 use Rattle.std.proofs.Common.{◌≡◌, ◌⊎◌, ℕ, List, Option, Some, None, refl, sym, ap, ◌∙◌, subst, inl, inr, arith}

@@ -44,7 +44,7 @@ IsCalm (end.CalledOff f) = Unit
 abbrev pub IsSettled : {T : Type 0} → (ℕ → T → Type 0) → Race T → (ℕ → ℕ → JobEnd T) → ℕ → Type 0
 IsSettled {T} IsFor race ends k = (i : ℕ) × (j : ℕ) × (f : T) × (i < race.lanes) × (j < race.jobs) × Carries (ends i j) f × IsFor k f
 
--- .. or one that decides the task whatever the job comes to
+-- .. or one that decides the task whatever the end of the job
 abbrev pub RaceHas : {T : Type 0} → (ℕ → T → Type 0) → (ℕ → T → Type 0) → Race T → (ℕ → ℕ → JobEnd T) → ℕ → Type 0
 RaceHas {T} IsFor Fatal race ends k =
     IsSettled IsFor race ends k

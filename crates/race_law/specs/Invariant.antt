@@ -89,7 +89,7 @@ pub record SeatInv {T : Type 0} (P : T → Type 0) (Q : Type 0) (script : Option
   pub right_reader : RightReader (reader_of es)
   pub right_keeper : RightKeeper (keeper_of a es)
 
--- Some lane's script comes to a finding for the job, or to one that decides the task whatever the job comes to.
+-- Some lane's script is judged as a finding for the job, or as one that decides the task whatever the end of the job.
 abbrev pub PlainHas : {T : Type 0} → (ℕ → T → Type 0) → (ℕ → T → Type 0) → Race T → ℕ → Type 0
 PlainHas {T} IsFor Fatal race j =
     ((i : ℕ) × (s : Script T) × (f : T) × (race.script i j ≡ Some s) × (plain s ≡ progress.Found f) × IsFor j f)

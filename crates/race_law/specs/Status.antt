@@ -41,6 +41,6 @@ pub record TaskStatus {T : Type 0} (mode : Mode) (answer : T → Answer) (lanes 
 abbrev pub RaceSettles : {T : Type 0} → (ℕ → T → Type 0) → Race T → (ℕ → ℕ → JobEnd T) → ℕ → T → Type 0
 RaceSettles IsFor race ends k f = (i : ℕ) × (j : ℕ) × (i < race.lanes) × (j < race.jobs) × Carries (ends i j) f × IsFor k f
 
--- a finding for the job that a script comes to
+-- a finding for the job that a script is judged as
 abbrev pub PlainSettles : {T : Type 0} → (ℕ → T → Type 0) → Race T → ℕ → T → Type 0
 PlainSettles {T} IsFor race k f = (i : ℕ) × (s : Script T) × (race.script i k ≡ Some s) × (plain s ≡ progress.Found f) × IsFor k f

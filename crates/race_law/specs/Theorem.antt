@@ -36,7 +36,7 @@ pub record IsFor {T : Type 0} (problem : T → ProblemOf) (job : T → JobName) 
   pub of_problem : problem f ≡ task.problem
   pub holds : is_true f
 
--- a finding that is Sat for the first job decides the task whatever the second comes to: Base's, of Step or Inv; a slice's, of a later slice
+-- a finding that is Sat for the first job decides the task whatever the end of the second: Base's, of Step or Inv; a slice's, of a later slice
 abbrev pub IsBefore : JobName → JobName → Type 0
 IsBefore (name.Base m) (name.Base n) = m < n
 IsBefore (name.Base m) name.Step = m ≡ 0
@@ -46,7 +46,7 @@ IsBefore name.Step k = ⊥
 IsBefore name.Inv k = ⊥
 IsBefore (name.Cover m) k = ⊥
 
--- a finding that decides the task whatever this job comes to
+-- a finding that decides the task whatever the end of this job
 pub record DecidesAway {T : Type 0} (job : T → JobName) (answer_of : T → Answer) (task : TaskOf) (k : ℕ) (f : T) : Type 0 where
   pub sat : answer_of f ≡ answer.Sat
   pub before : IsBefore (job f) (name_at task.mode k)

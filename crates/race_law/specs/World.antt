@@ -12,8 +12,8 @@ use Rattle.race_core.specs.declared.part.Reader.{Reader}
 use Rattle.race_core.specs.declared.part.Reader.TheVariants as reader
 use Rattle.race_core.specs.declared.part.Keeper.{Keeper}
 
--- What a lane's child gives for a job: the progress at each count of bytes, what it comes to if the stream ends there, what the proof
--- file comes to, and how many bytes there are.
+-- What a lane's child gives for a job: the progress at each count of bytes, what it is judged as if the stream ends there, what the
+-- proof file is judged as, and how many bytes there are.
 pub record Script (T : Type 0) : Type 0 where
   pub at : ℕ → Judged T
   pub ended : ℕ → Judged T
@@ -179,7 +179,7 @@ abbrev pub first_judged : {T : Type 0} → Judged T → Judged T → Judged T
 first_judged progress.More q = q
 first_judged p q = p
 
--- Plain: what a script comes to with no thread, cell or order
+-- Plain: what a script is judged as with no thread, cell or order
 abbrev pub plain : {T : Type 0} → Script T → Judged T
 plain s = first_judged (s.at s.size) (first_judged (s.ended s.size) s.file)
 
@@ -196,7 +196,7 @@ abbrev pub ends_job : {T : Type 0} → Terms T → T → Bool
 ends_job a f = a.skipped f || a.needless f
 
 -- What makes a race: scripts that are scripts, findings for one job each, and a finding that ends a job is for that job or
--- decides the task whatever that job comes to; what decides so against what decides, decides.
+-- decides the task whatever that job's end; what decides so against what decides, decides.
 pub record IsRace {T : Type 0} (IsFor : ℕ → T → Type 0) (Fatal : ℕ → T → Type 0) (race : Race T) : Type 0 where
   pub within : (i j : ℕ) (s : Script T) → race.script i j ≡ Some s → (i < race.lanes) × (j < race.jobs)
   pub scripts : (i j : ℕ) (s : Script T) → race.script i j ≡ Some s → IsScript (IsFor j) s

@@ -42,7 +42,7 @@ pub fn any_order<T: Settled>()
     sby_terms::one_verdict();
 }
 
-/// A law: reports in another order come to the same answers, printing lanes and status, where the findings that they carry are true
+/// A law: reports in another order have the same answers, printing lanes and status, where the findings that they carry are true
 /// ones of one problem.
 pub fn any_report_order<T: Settled>()
     ensures { (mode : Mode) (jobs : ℕ) (p : ProblemOf) (xs ys : List (ReportOf T)) → SameMembers xs ys → AreTrue T.problem T.is_true p xs

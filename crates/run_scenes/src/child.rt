@@ -6,7 +6,7 @@ use sby_terms::JobName;
 use std::alloc::{AllocError, Global};
 
 /// What the child of a task's lane does for a job: the sources of what it writes and of the proof file that it leaves; after how many bytes it
-/// stalls; the lane, of another task where one is told, whose child must be live beside it within so many turns, or it doesn't know; and the kind
+/// stalls; the lane, of another task where one is told, whose child must be live beside it within this many turns, or it doesn't know; and the kind
 /// of call of which the first fails.
 #[derive(Clone, Copy)]
 pub struct Child<'a> {

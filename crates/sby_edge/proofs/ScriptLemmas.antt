@@ -77,7 +77,7 @@ read_gives place given count old stream buffer (Some other) fits ends same (inr 
     s (gives place given count stream buffer (record { place = place; given = given; bytes = drop given old; instead = Some other.now }) refl refl fits ends same))
 read_gives place given count old stream buffer None fits ends same (inr e) zero_given = absurd e
 
--- the same, as a read comes to it
+-- the same in the form that a read's contract has
 pub read_all : (place at before given count : ℕ) (old stream buffer : List ℕ) (instead : Option (Bor (List ℕ))) (left : Option (List ℕ)) → at ≡ place → given ≡ before → left ≡ None
     → given + count ≤ length stream → (count ≡ 0 → given ≡ length stream)
     → take count buffer ≡ take count (drop given stream) → (stream ≡ old) ⊎ IsSomeAnd instead (λ other. other.now ≡ stream) → ForSome instead (λ _. before ≡ 0)

@@ -45,8 +45,8 @@ abbrev pub left_by : Option BayOf → CountsOf → List LaneOf
 left_by None counts = []
 left_by (Some bay) counts = record { task = bay.task; lane = bay.lane; starts = bay.starts; counts = counts } ∷ []
 
--- what a yard tells of the bays that came back, when these lanes more did: they stand after the earlier ones; or, since memory was
--- wanting to keep them, it tells no more
+-- what a yard tells of the bays that came back, when these lanes more did: they stand after the earlier ones; or, since memory ran
+-- out for them, it tells no more
 abbrev pub IsLogged : List LaneOf → Option (List LaneOf) → Option (List LaneOf) → Type 0
 IsLogged lanes before now = (now ≡ option_map (λ earlier. earlier ++ lanes) before) ⊎ (now ≡ None)
 

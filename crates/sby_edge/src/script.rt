@@ -26,7 +26,7 @@ pub struct CallFault {
     pub nth: u32,
 }
 
-/// A second child, that of `lane` of `task` (the own task where none is named) for the same job. The first read waits until both children have been live at one moment, for at
+/// A second child, that of `lane` of `task` (the child's own task where none is named) for the same job. The first read waits until both children have been live at one moment, for at
 /// most `turns` turns; if that moment doesn't come, the stream is `instead`.
 #[derive(Drop, Debug)]
 pub struct Gate {

@@ -74,7 +74,7 @@ impl<'a> Walk<'a> {
         }
     }
 
-    /// The same lines once more, to look ahead.
+    /// Returns a second walk over the lines that are left, to look ahead.
     pub fn ahead(&self) -> Walk<'a>
         ensures { result ≡ self.now }
     {

@@ -1,4 +1,4 @@
--- What the lines of a task go by.
+-- What the lines of a task depend on.
 use Rattle.std.specs.Prelude.{◌≡◌, ℕ, ◌<◌, ◌^◌, List, length, Option, Some, None, slice_get, All, Contains}
 use Rattle.judge.specs.Finding.{FindingOf, IsTrueFinding}
 use Rattle.judge.specs.Jobs.{jobs_in}
@@ -32,7 +32,7 @@ pub record Request : Type 0 where
   pub expect : List Status
   pub limit : Option ℕ
 
--- what a task came to whose design was accepted: the design, what its lanes report, and, under a time limit, the reading at which the
+-- the result of a task whose design was accepted: the design, what its lanes report, and, under a time limit, the reading at which the
 -- lanes started
 pub record CameTo : Type 0 where
   pub design : DesignOf
@@ -103,7 +103,7 @@ WinnersHaveFindings mode reports = (r : ReportOf FindingOf) (k : ℕ) → Contai
 abbrev pub asked_by : Heading → List Status → Request
 asked_by h expect = record { name = h.name.now; mode = h.mode; span = h.span; expect = expect; limit = h.limit }
 
--- what it came to
+-- its result
 abbrev pub came : DesignOf → List (ReportOf FindingOf) → Option ℕ → CameTo
 came d reports start = record { design = d; reports = reports; start = start }
 

@@ -1,4 +1,4 @@
-// What the reports of a task come to.
+// What the reports of a task decide.
 
 ghost use Rattle.std.specs.Prelude.{◌≡◌, ◌<◌, ℕ, true, false, IfNone, IfSome, Some, length, slice_get};
 ghost use Rattle.judge.specs.Jobs.{jobs_in};
@@ -14,7 +14,7 @@ use judge::Finding;
 use race_core::{Outcome, Report, Room, collect_in};
 use sby_terms::{Answer, Mode, Span, Status, Verdict, decide};
 
-/// What the reports of a task come to.
+/// What the reports of a task decide.
 #[derive(Drop)]
 pub struct Collected {
     /// The answer of each job that is settled.

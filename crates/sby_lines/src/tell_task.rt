@@ -247,7 +247,7 @@ fn tell_verdict<S: Sink>(
 }
 
 /// Offers the lines of a task's jobs, which come after its design's (`tell_design`), by what its lanes report, the reading of the clock
-/// at which they started, in milliseconds, and what the reports come to. A lane is stopped under a limit alone, so these lines exist.
+/// at which they started, in milliseconds, and what the reports decide. A lane is stopped under a limit alone, so these lines exist.
 pub fn tell_jobs<S: Sink>(
     alloc: Global,
     out: &mut S,

@@ -24,7 +24,7 @@ InvIs answers answer = slice_get answers 1 ≡ Some (Some answer)
 abbrev pub AreAll : List (Option Answer) → Answer → Type 0
 AreAll answers answer = All (λ one. one ≡ Some answer) answers
 
--- The answers decide this verdict. A task of bmc has a slice at least. An invariant shows by itself what prove asks, whatever Base comes to.
+-- The answers decide this verdict. A task of bmc has a slice at least. An invariant shows by itself what prove asks, with or without an answer of Base.
 abbrev pub Decides : Mode → List (Option Answer) → Verdict → Type 0
 Decides Bmc answers Pass = (answers ≡ [] → ⊥) × AreAll answers Unsat
 Decides Bmc answers Fail = Contains answers (Some Sat)

@@ -87,7 +87,7 @@ words --judge t.il bmc 1 s0
 > SBY [t] base: UNSAT
 > SBY [t] DONE (PASS, rc=0)";
 
-// A counter of two bits that must not come to 3: its first wires, the assertion's EN, the depth, and with an assumption.
+// A counter of two bits that must not reach 3: its first wires, the assertion's EN, the depth, and with an assumption.
 const COUNTERS: &str = "file t.il <PLAIN>|<COUNTER>|1'1| end|end|
 words --judge t.il bmc 3 s0
 > SBY [t] design: 2 register bits, 1 assert, 0 assume, 0 cover

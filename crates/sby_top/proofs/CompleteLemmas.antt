@@ -1,4 +1,4 @@
--- Lanes that nothing disturbed come to Plain's status.
+-- Lanes that nothing disturbed have Plain's status.
 use Rattle.std.proofs.Common.{◌≡◌, ℕ, ◌<◌, List, refl, ap, sym, ◌∙◌, subst, inl, inr, ◌⊎◌, length, arith}
 use Rattle.std.specs.Prelude.{Contains, IsSome, Option, Some, None, slice_get}
 use Rattle.sby_edge.specs.Cause.{CountsOf}

@@ -104,7 +104,7 @@ faulty (Stopped reading) is = cc
 faulty MemoryEnd is = cc
 
 module _ (may_read : ℕ → Type 0) (number : ℕ) (moments : Moments) (task : TaskOf) (end : TaskEnd) where
-  -- the outcome of a task that came to its lanes
+  -- the outcome of a task that reached its lanes
   abbrev Outcome : Type 0
   Outcome = IsOutcome may_read task moments (race_of number moments.pool moments.before moments.after end.start) None end.text end.reports.items end.unput.items (WasStopped moments end)
 

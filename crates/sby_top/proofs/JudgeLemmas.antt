@@ -8,7 +8,7 @@ use Rattle.sby_edge.specs.Files.{PieceAt, PieceFrom, Store}
 use Rattle.cert_judge.specs.Fate.{Fate, Found as FoundFate, Unknown as UnknownFate, Bad as BadFate}
 use Rattle.cert_judge.specs.declared.stream.Kind.{Kind}
 use Rattle.judge.proofs.StreamFates.{within_most}
-use Rattle.judge.specs.Answers.{Finds, fate_told, state_behind}
+use Rattle.judge.specs.Answers.{Finds, fate_told, state_after}
 use Rattle.judge.specs.Fates.{IsFate, IsFateSoFar, IsStreamsRun, Serves}
 use Rattle.judge.specs.Finding.{FindingOf}
 use Rattle.race_core.specs.declared.end.JobEnd.{JobEnd}
@@ -56,7 +56,7 @@ not_over j bytes took = let e = took.state in λ is. cc
 pub goes_on : (j new : JudgeOf) (bytes : List ℕ) (r : Result Progress BadCert) → HasFile j → j.most ≡ most_stream → fate_told r ≡ None → Feeds j new bytes r → PieceEnds j new bytes None
 goes_on j new bytes r file most none fed = (
   fed.same,
-  fed.stands (fed.state ∙ ap state_behind (more_only r none)),
+  fed.stands (fed.state ∙ ap state_after (more_only r none)),
   subst (λ n. length bytes ≤ n) most (within_most j.asked j.job j.kind file.0 bytes j.most (subst (IsFateSoFar j.asked j.job j.kind file.0 bytes j.most) none (fed.fate file.0 file.1))),
 )
 
@@ -178,7 +178,7 @@ next_behind (Some store) path before piece next place most is at got =
     let own : next ≡ take most (drop (length (before ++ piece)) is.0) = subst (λ n. next ≡ take most (drop n is.0)) at (piece_at (store path) is.0 place most next got is.1) in
     (is.0, is.1, behind is.0 (before ++ piece) is.2.rest next most is.2.parts own)
 
--- ---- what a path's stream comes to
+-- ---- what a path's stream is judged as
 
 has_next : (told : Option Store) (path before piece : List ℕ) (most : ℕ) (P : List ℕ → Type 0) → IsNext told path before piece most → ((rest : List ℕ) → (length piece < most → rest ≡ []) → P (before ++ piece ++ rest)) → Has told path P
 has_next None path before piece most P is each = (before ++ piece ++ [], each [] (λ short. refl))

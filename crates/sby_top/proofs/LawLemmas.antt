@@ -214,7 +214,7 @@ comes_with_jobs may_read number moments task end exit store text ran smooth told
   ]
 ]
 
--- a design that isn't refused comes to its lanes, where there is a job for each stream
+-- the task of a design that isn't refused reaches its lanes, where there is a job for each stream
 pub comes_to_lanes : (may_read : ℕ → Type 0) (number : ℕ) (moments : Moments) (task : TaskOf) (end : TaskEnd) (exit : Exit) (store : Store) (text : List ℕ) (d : DesignOf) → TaskRan may_read number moments task end exit → IsSmooth moments end.status → moments.got.told ≡ Some store
     → IsTextOf (Some store) task.design text → ((fault : ProblemFault) → IsProblemFault (problem_of task text) fault → ⊥) → Reads text d
     → length (streams_in task.service) ≤ length (jobs_of_mode task.request.mode task.request.span d) → end.early ≡ None

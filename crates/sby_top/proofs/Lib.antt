@@ -11,7 +11,6 @@ pub mod EvidenceLemmas
 pub mod ExistLemmas
 pub mod FailLemmas
 pub mod FileLemmas
-pub mod HadLemmas
 pub mod JobLemmas
 pub mod JudgeLemmas
 pub mod KindLemmas
@@ -41,5 +40,6 @@ pub mod TopLemmas
 pub mod TraceLemmas
 pub mod TruthLemmas
 pub mod TurnLemmas
+pub mod TurnRunLemmas
 pub mod ValueLemmas
 pub mod PutLemmas

@@ -61,7 +61,7 @@ has_some : (o : Option (List ℕ)) (P : List ℕ → Type 0) → MatchOption o �
 has_some None P h = absurd h
 has_some (Some x) P h = (x, refl, h)
 
--- ---- the fates of streams that came to these ends
+-- ---- the fates of streams whose jobs ended so
 
 abbrev event_of : JobEnd FindingOf → Event
 event_of end = told_by end

@@ -21,7 +21,7 @@ use Rattle.sby_top.specs.Causes.{IsOutcome}
 use Rattle.sby_top.specs.Claims.{AllExpected, AreExpected, HasTold}
 use Rattle.sby_top.specs.Headline.{AreLines, Code, Cut, Exit, HasOwnStatus, IsPrinted, TaskRan, WasStopped}
 use Rattle.sby_top.specs.Promise.{ZeroIsExpected}
-use Rattle.sby_top.specs.Run.{Did, Had, TurnRan, TurnsDone, rc_of_exit}
+use Rattle.sby_top.specs.Run.{Did, TurnRan, TurnsDone, TurnsRan, rc_of_exit}
 use Rattle.sby_top.specs.Task.{TaskOf, problem_of}
 use Rattle.sby_top.specs.Turns.{Refused, Run, Turn}
 use Rattle.sby_top.specs.World.{Moments, World, race_of}
@@ -182,7 +182,7 @@ turn_expected : (may_read : ℕ → Type 0) (number : ℕ) (moments : Moments) (
 turn_expected may_read number moments (Run task) turns end ends ran rest = (ran.named.name, zero_expected task.request.expect end.status ran.printed.1, rest)
 turn_expected may_read number moments (Refused name early) turns end ends ran rest = let own = ran.code 0 refl in let least = code_least end.status in absurd (omega (own, least.0, arith))
 
-pub had_expected : (may_read : ℕ → Type 0) (number so_far : ℕ) (turns : List Turn) (ms : List Moments) (ends : List TaskEnd) (exit : Exit) → Had may_read number so_far turns ms ends exit → exit ≡ Code 0 → (so_far ≡ 0) × AreExpected turns ends
+pub had_expected : (may_read : ℕ → Type 0) (number so_far : ℕ) (turns : List Turn) (ms : List Moments) (ends : List TaskEnd) (exit : Exit) → TurnsRan may_read number so_far turns ms ends exit → exit ≡ Code 0 → (so_far ≡ 0) × AreExpected turns ends
 had_expected may_read number so_far [] [] [] exit had zero_exit = (code_zero so_far (sym had ∙ zero_exit), tt)
 had_expected may_read number so_far [] [] (end ∷ ends) exit had zero_exit = absurd had
 had_expected may_read number so_far [] (m ∷ ms) ends exit had zero_exit = absurd had

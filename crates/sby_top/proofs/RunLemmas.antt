@@ -88,7 +88,7 @@ served_named may_read number moments start task end p text reports done same is 
   cause = rw (is.early_is, is.text_is, is.reports_are, is.start_is) (done, rw same put);
 }
 
--- a task that came to this end was run
+-- a task that ended so has run
 pub task_ran : Laws → (may_read : ℕ → Type 0) (number : ℕ) (moments : Moments) (task : TaskOf) (end : TaskEnd) (exit : Exit) → IsAskable task → NamesEvent may_read number moments task end
     → IsPrinted task.request.name moments.before.taken moments.after.taken moments.before.sink_faults moments.after.sink_faults moments.after.ended (AreLines task end) task.request.expect (HasOwnStatus task end) end.status exit
     → IsLater moments → TaskRan may_read number moments task end exit

@@ -1,4 +1,4 @@
--- Turns are had at the same time, under an allowance.
+-- Turns run at the same time, under an allowance.
 use Rattle.std.proofs.Common.{◌≡◌, ℕ, zero, suc, ◌+◌, ◌<◌, List, [], ◌∷◌, ◌++◌, refl, ap, sym, ◌∙◌, subst, inl, inr, ◌⊎◌, append_assoc, append-nil, length, take, drop, arith}
 use Rattle.std.specs.Prelude.{All, Bool, Option, None, Some, IsSomeAnd, bit_or}
 use Rattle.std.proofs.lemmas.List.{drop_all, length-append}
@@ -14,7 +14,7 @@ use Rattle.sby_lines.proofs.ShownLemmas.{some_same}
 use Rattle.sby_lines.specs.declared.early.Early.{Early}
 use Rattle.sby_top.specs.Causes.{HasReason, IsSpared}
 use Rattle.sby_top.specs.Headline.{Exit, Code, Cut}
-use Rattle.sby_top.specs.Run.{ArePrepared, AreShown, AreUntold, Had, IsUntold, RanUnder, ShareOne, TurnRan, TurnUntold, WasRefused}
+use Rattle.sby_top.specs.Run.{ArePrepared, AreShown, AreUntold, IsUntold, RanUnder, ShareOne, TurnRan, TurnUntold, TurnsRan, WasRefused}
 use Rattle.sby_top.specs.Judged.{AreReports}
 use Rattle.sby_top.specs.Ready.{WasPrepared}
 use Rattle.sby_top.specs.Task.{TaskOf}
@@ -203,10 +203,10 @@ untold_of_more may_read number (turn ∷ turns) more (m ∷ ms) are = (are.0, un
 
 -- ---- turns that are shown
 
--- turns are had, from these files and this moment on, after this exit status; some more may be left untold
+-- turns run, from these files and this moment on, after this exit status; some more may be left untold
 abbrev pub GoShown : (ℕ → Type 0) → PoolOf → ℕ → ℕ → List Turn → List TaskEnd → Exit → FilesOf → FilesOf → World → World → Type 0
 GoShown may_read pool number so_far turns ends exit at last now finish =
-    (ms : List Moments) × (untold : List Moments) × Had may_read number so_far turns ms ends exit × ((untold ≡ []) ⊎ (exit ≡ Cut)) × AreUntold may_read (number + length ms) (drop (length ms) turns) untold
+    (ms : List Moments) × (untold : List Moments) × TurnsRan may_read number so_far turns ms ends exit × ((untold ≡ []) ⊎ (exit ≡ Cut)) × AreUntold may_read (number + length ms) (drop (length ms) turns) untold
     × ArePrepared at (ms ++ untold) last × AreShown now (ms ++ untold) finish × All (λ m. m.pool ≡ Some pool) (ms ++ untold)
 
 -- Some turns were shown, these slots hold those after them, and there are some more.
@@ -323,7 +323,7 @@ showing_first back may_read pool first last turns more start now left slot slots
     first_held back may_read pool now.yard.scripts (length done.ends.items) was.at last was.rest slot slots
     (subst (λ ss. AreWaiting back may_read pool now.yard.scripts (length done.ends.items) was.at was.rest last ss) is was.waiting)
 
--- those that are left behind a failed call of the sink
+-- those that are left after a failed call of the sink
 abbrev pub LeavesAll : {L : Type 0} (back : L → BackOf) → (ℕ → Type 0) → PoolOf → World → World → List (Slot L) → Type 0
 LeavesAll back may_read pool now finish slots =
     (number : ℕ) (at last : FilesOf) (turns : List Turn) → AreWaiting back may_read pool now.yard.scripts number at turns last slots → GoUntold may_read pool number turns at last now finish

@@ -12,7 +12,7 @@ use Rattle.sby_lines.specs.declared.tell.Stop.TheVariants.{Memory as MemoryStop,
 use Rattle.sby_words.specs.Folders.{IsStem, task_folder}
 use Rattle.gen_design.specs.Ring.{task_lines, text_of}
 use Rattle.sby_words.specs.Requests.{AskGen, AskNames, AskTasks, GenRequest, Request as Asked, TaskRequest}
-use Rattle.sby_top.specs.Ending.{RanTo, told_code}
+use Rattle.sby_top.specs.Ending.{RunsTo, told_code}
 use Rattle.sby_top.specs.Run.{LinesAlone, NamesTold, SameSink, TurnsDone, allowance_of, name_lines}
 use Rattle.sby_top.specs.Served.{IsGot}
 use Rattle.sby_top.specs.Steps.{IsFailedCall}
@@ -25,7 +25,7 @@ use Rattle.sby_top.specs.declared.outcome.Done.{Done}
 use Rattle.sby_top.proofs.ServeLemmas.{same_files}
 use Rattle.sby_top.proofs.TurnLemmas.{no_ends}
 
-pub turns_done : (may_read : ℕ → Type 0) (before middle after : World) (done : Done) (asked : Asked) (turns : List Turn) → SameSink before middle → HasTurns (files_of before) (files_of middle) asked turns → RanTo (allowance_of asked) may_read middle turns after done → TurnsDone may_read before after done asked
+pub turns_done : (may_read : ℕ → Type 0) (before middle after : World) (done : Done) (asked : Asked) (turns : List Turn) → SameSink before middle → HasTurns (files_of before) (files_of middle) asked turns → RunsTo (allowance_of asked) may_read middle turns after done → TurnsDone may_read before after done asked
 turns_done may_read before middle after done asked turns same has ran = record { middle = middle; turns = turns; exit = ran.0; same_sink = same; has_turns = has; ran = ran.1; rc = ran.2 }
 
 -- a task file couldn't be got
@@ -71,14 +71,14 @@ pub names_told : (may_read : ℕ → Type 0) (before after : World) (file text :
 names_told may_read before after file text c done got is alone = inl (text, c, (got, refl), is, alone)
 
 pub names_fault : (may_read : ℕ → Type 0) (before middle after : World) (file stem : List ℕ) (early : Early) (done : Done) → SameSink before middle → IsNamesFault (files_of before) (files_of middle) file early → IsStem file stem
-    → RanTo None may_read middle (Refused (task_folder stem None []) early ∷ []) after done → NamesTold may_read before after file done
+    → RunsTo None may_read middle (Refused (task_folder stem None []) early ∷ []) after done → NamesTold may_read before after file done
 names_fault may_read before middle after file stem early done same fault is ran =
     inr (turns_done may_read before middle after done (AskNames file) (Refused (task_folder stem None []) early ∷ []) same (early, fault, (stem, is, refl)) ran)
 
--- the turns of a task file that was got were had
+-- the turns of a task file that was got ran
 pub tasks_done : (may_read : ℕ → Type 0) (before middle after : World) (done : Done) (t : TaskRequest) (file path stem text : List ℕ) (directory : Option (List ℕ)) (jobs : Option ℕ) (names : List (List ℕ)) → record { directory = directory; jobs = jobs; file = file; names = names } ≡ t → path ≡ file
     → SameSink before middle → IsGot before.told path most_task_file text → files_of middle ≡ files_of before → IsStem path stem
-    → ((turns : List Turn) × AreTextTurns stem directory names text turns × RanTo jobs may_read middle turns after done) → TurnsDone may_read before after done (AskTasks t)
+    → ((turns : List Turn) × AreTextTurns stem directory names text turns × RunsTo jobs may_read middle turns after done) → TurnsDone may_read before after done (AskTasks t)
 tasks_done may_read before middle after done t file path stem text directory jobs names is at same got files stem_is ran =
     subst (λ q. TurnsDone may_read before after done (AskTasks q)) is
     (turns_done may_read before middle after done (AskTasks (record { directory = directory; jobs = jobs; file = file; names = names })) ran.0 same
@@ -86,15 +86,15 @@ tasks_done may_read before middle after done t file path stem text directory job
 
 -- or its fault was told
 pub tasks_fault : (may_read : ℕ → Type 0) (before middle after : World) (done : Done) (t : TaskRequest) (file path stem : List ℕ) (directory : Option (List ℕ)) (jobs : Option ℕ) (names : List (List ℕ)) (early : Early) → record { directory = directory; jobs = jobs; file = file; names = names } ≡ t → path ≡ file
-    → SameSink before middle → IsFailedCall (files_of before) (files_of middle) path early → IsStem path stem → RanTo jobs may_read middle (Refused (task_folder stem directory []) early ∷ []) after done → TurnsDone may_read before after done (AskTasks t)
+    → SameSink before middle → IsFailedCall (files_of before) (files_of middle) path early → IsStem path stem → RunsTo jobs may_read middle (Refused (task_folder stem directory []) early ∷ []) after done → TurnsDone may_read before after done (AskTasks t)
 tasks_fault may_read before middle after done t file path stem directory jobs names early is at same failed stem_is ran =
     subst (λ q. TurnsDone may_read before after done (AskTasks q)) is
     (turns_done may_read before middle after done (AskTasks (record { directory = directory; jobs = jobs; file = file; names = names })) (Refused (task_folder stem directory []) early ∷ []) same
     (has_fault (files_of before) (files_of middle) file stem directory jobs names early (subst (λ p. IsFailedCall (files_of before) (files_of middle) p early) at failed) (subst (λ p. IsStem p stem) at stem_is)) ran)
 
--- the turns of the generated task file were had
+-- the turns of the generated task file ran
 pub gen_done : (may_read : ℕ → Type 0) (before after : World) (done : Done) (t : GenRequest) (size : ℕ) (stem text : List ℕ) (directory : Option (List ℕ)) → record { directory = directory; size = size } ≡ t → stem ≡ gen_stem size → text ≡ text_of (task_lines size)
-    → ((turns : List Turn) × AreTextTurns stem directory [] text turns × RanTo None may_read before turns after done) → TurnsDone may_read before after done (AskGen t)
+    → ((turns : List Turn) × AreTextTurns stem directory [] text turns × RunsTo None may_read before turns after done) → TurnsDone may_read before after done (AskGen t)
 gen_done may_read before after done t size stem text directory is stem_is text_is ran =
     let are = subst (λ s. AreTextTurns s directory [] text ran.0) stem_is ran.1 in
     let own = subst (λ x. AreTextTurns (gen_stem size) directory [] x ran.0) text_is are in

@@ -1,4 +1,4 @@
--- Turns are had, one after the other.
+-- Turns run, one after the other.
 use Rattle.std.proofs.Common.{◌≡◌, ℕ, List, [], ◌∷◌, ◌++◌, refl, ap, sym, ◌∙◌, subst, inl, inr, ◌⊎◌, map, append_assoc, append-nil, ◌+◌, ◌<◌, ◌≤◌, length, take, drop, arith, Global}
 use Rattle.std.specs.Prelude.{Bool, true, false, Option, Some, None, Result, Ok, Err, Contains, bit_or, bytes_eq, option_map, slice_get, string_bytes, String}
 use Rattle.std.proofs.lemmas.List.{drop_all, length-append, map-append, take-append-drop}
@@ -18,7 +18,7 @@ use Rattle.sby_task.specs.declared.expansion.Task.{Task as FileTask}
 use Rattle.sby_task.specs.declared.task_fault.TaskFault.{TaskFault}
 use Rattle.sby_lines.specs.declared.early.Early.TheVariants.{Memory}
 use Rattle.sby_words.specs.Folders.{task_folder}
-use Rattle.sby_top.specs.Ending.{AreHad, HadAtOnce, IsAsk, IsAskedTurn, RanTo}
+use Rattle.sby_top.specs.Ending.{HaveRun, IsAsk, IsAskedTurn, RanAtOnce, RunsTo}
 use Rattle.sby_top.specs.Headline.{Exit, Code, Cut}
 use Rattle.sby_top.specs.Run.{Ran, name_lines, rc_of_exit}
 use Rattle.sby_top.specs.Turns.{AreTurnsOf, IsNameOf, IsTurnOf, Refused, Turn}
@@ -30,7 +30,7 @@ use Rattle.sby_top.proofs.TogetherLemmas.{none_started_yet}
 use Rattle.cnf_form.proofs.Members.{Contains-head, Contains-tail}
 
 -- memory ran out even for an end
-pub no_ends : (jobs : Option ℕ) (may_read : ℕ → Type 0) (before : World) (turn : Turn) (turns : List Turn) (done : Done) → done.rc ≡ 32 → done.ends.items ≡ [] → RanTo jobs may_read before (turn ∷ turns) before done
+pub no_ends : (jobs : Option ℕ) (may_read : ℕ → Type 0) (before : World) (turn : Turn) (turns : List Turn) (done : Done) → done.rc ≡ 32 → done.ends.items ≡ [] → RunsTo jobs may_read before (turn ∷ turns) before done
 no_ends None may_read before turn turns done rc ends = (Code (bit_or 0 32), rw ends ([], refl, refl), rc)
 no_ends (Some most) may_read before turn turns done rc ends = (
   Code (bit_or 0 32),
@@ -38,21 +38,21 @@ no_ends (Some most) may_read before turn turns done rc ends = (
   rc,
 )
 
--- the turns that follow one that was had
-ran_next : (may_read : ℕ → Type 0) (number so_far : ℕ) (start now : World) (turn : Turn) (turns : List Turn) (end : TaskEnd) (ends : List TaskEnd) (rc : ℕ) (after : World) (exit : Exit) → HadAtOnce may_read number start now turn end (Code rc)
+-- the turns that follow one that ran
+ran_next : (may_read : ℕ → Type 0) (number so_far : ℕ) (start now : World) (turn : Turn) (turns : List Turn) (end : TaskEnd) (ends : List TaskEnd) (rc : ℕ) (after : World) (exit : Exit) → RanAtOnce may_read number start now turn end (Code rc)
     → Ran may_read (number + 1) (bit_or so_far rc) now turns ends after exit → Ran may_read number so_far start (turn ∷ turns) (end ∷ ends) after exit
 ran_next may_read number so_far start now turn turns end ends rc after exit had rest = (at_once start had.0 now ∷ rest.0, inr (rc, had.1, rest.1), ((refl, refl, refl), rest.2))
 
 -- a turn that cut the run short
-ran_cut : (may_read : ℕ → Type 0) (number so_far : ℕ) (start after : World) (turn : Turn) (turns : List Turn) (end : TaskEnd) → HadAtOnce may_read number start after turn end Cut → Ran may_read number so_far start (turn ∷ turns) (end ∷ []) after Cut
+ran_cut : (may_read : ℕ → Type 0) (number so_far : ℕ) (start after : World) (turn : Turn) (turns : List Turn) (end : TaskEnd) → RanAtOnce may_read number start after turn end Cut → Ran may_read number so_far start (turn ∷ turns) (end ∷ []) after Cut
 ran_cut may_read number so_far start after turn turns end had = (at_once start had.0 after ∷ [], inl (had.1, refl, refl, refl), ((refl, refl, refl), refl))
 
-one_by : (may_read : ℕ → Type 0) (before after : World) (turn : Turn) (end : TaskEnd) (exit : Exit) → HadAtOnce may_read 0 before after turn end exit → (total : Exit) × Ran may_read 0 0 before (turn ∷ []) (end ∷ []) after total × (rc_of_exit exit ≡ rc_of_exit total)
+one_by : (may_read : ℕ → Type 0) (before after : World) (turn : Turn) (end : TaskEnd) (exit : Exit) → RanAtOnce may_read 0 before after turn end exit → (total : Exit) × Ran may_read 0 0 before (turn ∷ []) (end ∷ []) after total × (rc_of_exit exit ≡ rc_of_exit total)
 one_by may_read before after turn end (Code rc) had = (Code (bit_or 0 rc), ran_next may_read 0 0 before after turn [] end [] rc after (Code (bit_or 0 rc)) had ([], refl, refl), sym (or_zero_l rc))
 one_by may_read before after turn end Cut had = (Cut, ran_cut may_read 0 0 before after turn [] end had, refl)
 
--- the only turn was had
-pub one_ran : (may_read : ℕ → Type 0) (before after : World) (turn : Turn) (end : TaskEnd) (exit : Exit) (done : Done) → HadAtOnce may_read 0 before after turn end exit → done.rc ≡ rc_of_exit exit → done.ends.items ≡ end ∷ [] → RanTo None may_read before (turn ∷ []) after done
+-- the only turn ran
+pub one_ran : (may_read : ℕ → Type 0) (before after : World) (turn : Turn) (end : TaskEnd) (exit : Exit) (done : Done) → RanAtOnce may_read 0 before after turn end exit → done.rc ≡ rc_of_exit exit → done.ends.items ≡ end ∷ [] → RunsTo None may_read before (turn ∷ []) after done
 one_ran may_read before after turn end exit done had rc ends = let one = one_by may_read before after turn end exit had in (one.0, rw ends one.1, rc ∙ one.2)
 
 -- ---- every task has a turn
@@ -98,7 +98,7 @@ turns_append stem directory c (a ∷ asked) more (turn ∷ turns) others are the
 
 -- ---- turns so far
 
-pub had_none : (may_read : ℕ → Type 0) (start : World) (stem : List ℕ) (directory : Option (List ℕ)) (c : ConfigOf) (done : Done) → done.rc ≡ 0 → done.ends.items ≡ [] → AreHad may_read start start stem directory c [] done
+pub had_none : (may_read : ℕ → Type 0) (start : World) (stem : List ℕ) (directory : Option (List ℕ)) (c : ConfigOf) (done : Done) → done.rc ≡ 0 → done.ends.items ≡ [] → HaveRun may_read start start stem directory c [] done
 had_none may_read start stem directory c done rc ends = record {
   turns = [];
   are = refl;
@@ -108,8 +108,8 @@ had_none may_read start stem directory c done rc ends = record {
 one_more_end : {X : Type 0} (old new : List X) (x : X) → new ≡ old ++ x ∷ [] → length new ≡ length old + 1
 one_more_end old new x is = let both = length-append old (x ∷ []) in let all = ap length is in omega (arith, both, all)
 
-pub had_more : (may_read : ℕ → Type 0) (start mid now : World) (stem : List ℕ) (directory : Option (List ℕ)) (c : ConfigOf) (asked : List (Option (List ℕ))) (a : Option (List ℕ)) (old new : Done) → AreHad may_read start mid stem directory c asked old
-    → IsAsk may_read mid now stem directory c a old new true → AreHad may_read start now stem directory c (asked ++ a ∷ []) new
+pub had_more : (may_read : ℕ → Type 0) (start mid now : World) (stem : List ℕ) (directory : Option (List ℕ)) (c : ConfigOf) (asked : List (Option (List ℕ))) (a : Option (List ℕ)) (old new : Done) → HaveRun may_read start mid stem directory c asked old
+    → IsAsk may_read mid now stem directory c a old new true → HaveRun may_read start now stem directory c (asked ++ a ∷ []) new
 had_more may_read start mid now stem directory c asked a old new had is = record {
   turns = had.turns ++ is.0 ∷ [];
   are = turns_append stem directory c asked (a ∷ []) had.turns (is.0 ∷ []) had.are (is.3, refl);
@@ -122,11 +122,11 @@ had_more may_read start mid now stem directory c asked a old new had is = record
       (subst (λ ts. Ran may_read 0 0 start ts (old.ends.items ++ is.1 ∷ last) after exit) (sym (append_assoc had.turns (is.0 ∷ []) more)) all);
 }
 
--- all turns, with those that weren't had
+-- all turns, with those that didn't run
 abbrev pub RanAsked : Option ℕ → (ℕ → Type 0) → World → World → List ℕ → Option (List ℕ) → ConfigOf → List (Option (List ℕ)) → Done → Type 0
-RanAsked jobs may_read start now stem directory c asked done = (turns : List Turn) × AreTurnsOf stem directory c asked turns × RanTo jobs may_read start turns now done
+RanAsked jobs may_read start now stem directory c asked done = (turns : List Turn) × AreTurnsOf stem directory c asked turns × RunsTo jobs may_read start turns now done
 
-pub had_last : (may_read : ℕ → Type 0) (start mid now : World) (stem : List ℕ) (directory : Option (List ℕ)) (c : ConfigOf) (asked more : List (Option (List ℕ))) (a : Option (List ℕ)) (old new : Done) → AreHad may_read start mid stem directory c asked old
+pub had_last : (may_read : ℕ → Type 0) (start mid now : World) (stem : List ℕ) (directory : Option (List ℕ)) (c : ConfigOf) (asked more : List (Option (List ℕ))) (a : Option (List ℕ)) (old new : Done) → HaveRun may_read start mid stem directory c asked old
     → IsAsk may_read mid now stem directory c a old new false → RanAsked None may_read start now stem directory c (asked ++ a ∷ more) new
 had_last may_read start mid now stem directory c asked more a old new had (inl cut) =
     let rest = turns_exist stem directory c more in (
@@ -147,7 +147,7 @@ had_last may_read start mid now stem directory c asked more a old new had (inr w
       ),
     )
 
-pub had_all : (may_read : ℕ → Type 0) (start now : World) (stem : List ℕ) (directory : Option (List ℕ)) (c : ConfigOf) (asked : List (Option (List ℕ))) (done : Done) → AreHad may_read start now stem directory c asked done → RanAsked None may_read start now stem directory c asked done
+pub had_all : (may_read : ℕ → Type 0) (start now : World) (stem : List ℕ) (directory : Option (List ℕ)) (c : ConfigOf) (asked : List (Option (List ℕ))) (done : Done) → HaveRun may_read start now stem directory c asked done → RanAsked None may_read start now stem directory c asked done
 had_all may_read start now stem directory c asked done had = (
   had.turns,
   had.are,
@@ -169,15 +169,15 @@ none_asked jobs may_read start stem directory c (a ∷ asked) done some rc ends 
 
 -- ---- exits as they are kept
 
-pub seen_code : (may_read : ℕ → Type 0) (own number : ℕ) (before after : World) (turn : Turn) (end : TaskEnd) (x : KeptExit) (rc : ℕ) → own ≡ number → x ≡ KeptCode rc → HadAtOnce may_read own before after turn end (exit_seen x)
-    → HadAtOnce may_read number before after turn end (Code rc)
+pub seen_code : (may_read : ℕ → Type 0) (own number : ℕ) (before after : World) (turn : Turn) (end : TaskEnd) (x : KeptExit) (rc : ℕ) → own ≡ number → x ≡ KeptCode rc → RanAtOnce may_read own before after turn end (exit_seen x)
+    → RanAtOnce may_read number before after turn end (Code rc)
 seen_code may_read own number before after turn end x rc same is ran =
-    subst (λ n. HadAtOnce may_read n before after turn end (Code rc)) same (subst (λ e. HadAtOnce may_read own before after turn end (exit_seen e)) is ran)
+    subst (λ n. RanAtOnce may_read n before after turn end (Code rc)) same (subst (λ e. RanAtOnce may_read own before after turn end (exit_seen e)) is ran)
 
-pub seen_cut : (may_read : ℕ → Type 0) (own number : ℕ) (before after : World) (turn : Turn) (end : TaskEnd) (x : KeptExit) → own ≡ number → x ≡ KeptCut → HadAtOnce may_read own before after turn end (exit_seen x)
-    → HadAtOnce may_read number before after turn end Cut
+pub seen_cut : (may_read : ℕ → Type 0) (own number : ℕ) (before after : World) (turn : Turn) (end : TaskEnd) (x : KeptExit) → own ≡ number → x ≡ KeptCut → RanAtOnce may_read own before after turn end (exit_seen x)
+    → RanAtOnce may_read number before after turn end Cut
 seen_cut may_read own number before after turn end x same is ran =
-    subst (λ n. HadAtOnce may_read n before after turn end Cut) same (subst (λ e. HadAtOnce may_read own before after turn end (exit_seen e)) is ran)
+    subst (λ n. RanAtOnce may_read n before after turn end Cut) same (subst (λ e. RanAtOnce may_read own before after turn end (exit_seen e)) is ran)
 
 -- ---- names
 
@@ -227,14 +227,14 @@ named_at names i s name at is = Contains-from_place (map string_bytes names) i n
 
 -- ---- the same, for lists of tasks that are written otherwise
 
-pub had_more_at : (may_read : ℕ → Type 0) (start mid now : World) (stem : List ℕ) (directory : Option (List ℕ)) (c : ConfigOf) (asked next : List (Option (List ℕ))) (a : Option (List ℕ)) (old new : Done) → next ≡ asked ++ a ∷ [] → AreHad may_read start mid stem directory c asked old
-    → IsAsk may_read mid now stem directory c a old new true → AreHad may_read start now stem directory c next new
-had_more_at may_read start mid now stem directory c asked next a old new all had is = subst (λ xs. AreHad may_read start now stem directory c xs new) (sym all) (had_more may_read start mid now stem directory c asked a old new had is)
+pub had_more_at : (may_read : ℕ → Type 0) (start mid now : World) (stem : List ℕ) (directory : Option (List ℕ)) (c : ConfigOf) (asked next : List (Option (List ℕ))) (a : Option (List ℕ)) (old new : Done) → next ≡ asked ++ a ∷ [] → HaveRun may_read start mid stem directory c asked old
+    → IsAsk may_read mid now stem directory c a old new true → HaveRun may_read start now stem directory c next new
+had_more_at may_read start mid now stem directory c asked next a old new all had is = subst (λ xs. HaveRun may_read start now stem directory c xs new) (sym all) (had_more may_read start mid now stem directory c asked a old new had is)
 
 pub had_last_at : (may_read : ℕ → Type 0) (start mid now : World) (stem : List ℕ) (directory : Option (List ℕ)) (c : ConfigOf) (asked more all : List (Option (List ℕ))) (a : Option (List ℕ)) (old new : Done) → all ≡ asked ++ a ∷ more
-    → AreHad may_read start mid stem directory c asked old → IsAsk may_read mid now stem directory c a old new false → RanAsked None may_read start now stem directory c all new
+    → HaveRun may_read start mid stem directory c asked old → IsAsk may_read mid now stem directory c a old new false → RanAsked None may_read start now stem directory c all new
 had_last_at may_read start mid now stem directory c asked more all a old new is had ask = subst (λ xs. RanAsked None may_read start now stem directory c xs new) (sym is) (had_last may_read start mid now stem directory c asked more a old new had ask)
 
-pub had_all_at : (may_read : ℕ → Type 0) (start now : World) (stem : List ℕ) (directory : Option (List ℕ)) (c : ConfigOf) (asked all : List (Option (List ℕ))) (done : Done) → asked ≡ all → AreHad may_read start now stem directory c asked done
+pub had_all_at : (may_read : ℕ → Type 0) (start now : World) (stem : List ℕ) (directory : Option (List ℕ)) (c : ConfigOf) (asked all : List (Option (List ℕ))) (done : Done) → asked ≡ all → HaveRun may_read start now stem directory c asked done
     → RanAsked None may_read start now stem directory c all done
 had_all_at may_read start now stem directory c asked all done is had = subst (λ xs. RanAsked None may_read start now stem directory c xs done) is (had_all may_read start now stem directory c asked done had)

@@ -1,4 +1,4 @@
--- What a task came to, and why.
+-- How a task ended, and why.
 use Rattle.std.specs.Prelude.{◌≡◌, ◌⊎◌, ℕ, ◌<◌, List, [], length, take, string_bytes, Option, Some, None, slice_get}
 use Rattle.sby_edge.specs.Files.{Store}
 use Rattle.judge.specs.Finding.{FindingOf}

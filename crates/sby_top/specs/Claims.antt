@@ -42,7 +42,7 @@ use Rattle.sby_words.specs.Requests.{AskNames, Request as Asked}
 use Rattle.sby_words.specs.Words.{IsAsked}
 use Rattle.sby_top.specs.Causes.{AreTracesPut, HasReason, IsDone, IsOutcome}
 use Rattle.sby_top.specs.Headline.{AreLines, ArePrintedOf, Exit, IsCarried, IsReachPrinted, WasStopped}
-use Rattle.sby_top.specs.Run.{Follows, Had, SameSink, allowance_of, TurnRan, rc_of_exit}
+use Rattle.sby_top.specs.Run.{Follows, SameSink, TurnRan, TurnsRan, allowance_of, rc_of_exit}
 use Rattle.sby_top.specs.Served.{ArePut, IsServed, IsTextOf, files_in, most_stream}
 use Rattle.sby_top.specs.Judged.{IsUnserved, racing_of}
 use Rattle.sby_top.specs.Task.{Lanes, Service, Streams, TaskOf}
@@ -55,9 +55,9 @@ use Rattle.task_race.specs.Ends.{HasEndCause, IsCalledOffBy, IsFateOf, IsLimitSh
 use Rattle.sby_top.specs.declared.outcome.Done.{Done}
 use Rattle.sby_top.specs.declared.outcome.TaskEnd.{TaskEnd}
 
--- A turn of a call: the words ask it; the turns were had, in their order, from the call's begin to its end; and this is the one at a place,
+-- A turn of a call: the words ask it; the turns ran, in their order, from the call's begin to its end; and this is the one at a place,
 -- with its moments and its end. The place is its number, from 0 on.
-pub record IsHad (may_read : ℕ → Type 0) (before after : World) (words : List (List ℕ)) (done : Done) (m : Moments) (turn : Turn) (end : TaskEnd) : Type 0 where
+pub record TurnHasRun (may_read : ℕ → Type 0) (before after : World) (words : List (List ℕ)) (done : Done) (m : Moments) (turn : Turn) (end : TaskEnd) : Type 0 where
   pub asked : Asked
   pub asks : IsAsked words (Some asked)
   pub begun : World
@@ -66,7 +66,7 @@ pub record IsHad (may_read : ℕ → Type 0) (before after : World) (words : Lis
   pub has_turns : HasTurns (files_of before) (files_of begun) asked turns
   pub ms : List Moments
   pub total : Exit
-  pub had : Had may_read 0 0 turns ms done.ends.items total
+  pub had : TurnsRan may_read 0 0 turns ms done.ends.items total
   pub order : Follows (allowance_of asked) may_read turns ms begun after total
   pub rc : done.rc ≡ rc_of_exit total
   pub place : ℕ
@@ -78,7 +78,7 @@ pub record IsHad (may_read : ℕ → Type 0) (before after : World) (words : Lis
 
 -- a task of a call, and its end
 abbrev pub IsTaskOf : (ℕ → Type 0) → World → World → List (List ℕ) → Done → Moments → TaskOf → TaskEnd → Type 0
-IsTaskOf may_read before after words done m task end = IsHad may_read before after words done m (Run task) end
+IsTaskOf may_read before after words done m task end = TurnHasRun may_read before after words done m (Run task) end
 
 -- trace files of these runs were put, one after the other
 abbrev pub AreStored : TaskOf → DesignOf → List TraceOf → Option Store → Option Store → Type 0
@@ -145,7 +145,7 @@ AreExpected (Refused name early ∷ turns) [] = ⊥
 AreExpected (Run task ∷ turns) (end ∷ ends) = (string_bytes end.name ≡ task.request.name) × Contains task.request.expect end.status × AreExpected turns ends
 AreExpected (Refused name early ∷ turns) (end ∷ ends) = ⊥
 
--- The words ask for the names of a file's tasks; or all the turns that they ask were had, and ended as their tasks expect.
+-- The words ask for the names of a file's tasks; or all the turns that they ask ran, and ended as their tasks expect.
 abbrev pub AllExpected : World → List (List ℕ) → Done → Type 0
 AllExpected before words done =
     (asked : Asked) × IsAsked words (Some asked)

@@ -1,4 +1,4 @@
--- What the lanes of a task come to with no thread, cell or order, and where they come to that.
+-- How the lanes of a task end with no thread, cell or order, and where they end so.
 use Rattle.std.specs.Prelude.{◌≡◌, ◌≢◌, ◌⊎◌, ℕ, ◌-◌, ◌<◌, ◌≤◌, List, length, Option, Some, None, IsSome, slice_get, Contains}
 use Rattle.sby_edge.specs.Child.{YardOf}
 use Rattle.sby_edge.specs.Script.{ScriptOf}
@@ -26,7 +26,7 @@ use Rattle.task_race.specs.Ends.{IsJudgedAs, script_of}
 use Rattle.task_race.specs.Ran.{EachLane, RacingOf, job_count, name_in}
 use Rattle.sby_top.specs.declared.outcome.TaskEnd.{TaskEnd}
 
--- Plain's end of a lane's job: what its child's script comes to as evidence for the job, or that it isn't served
+-- Plain's end of a lane's job: what its child's script is judged as, as evidence for the job, or that it isn't served
 abbrev pub IsPlainEnd : RacingOf → Option YardOf → ℕ → JobName → JobEnd FindingOf → Type 0
 IsPlainEnd racing told lane job (Found f) = IsJudgedAs racing told lane job (judged.Found f)
 IsPlainEnd racing told lane job Unknown = IsJudgedAs racing told lane job judged.Unknown

@@ -50,7 +50,7 @@ use Rattle.task_race.specs.Bays.{AreLater}
 use Rattle.sby_top.specs.declared.outcome.TaskEnd.{TaskEnd}
 use Rattle.design_trace.specs.Trace.{trace}
 
--- a task that came to this end has these lines
+-- a task that ended so has these lines
 abbrev pub AreLines : TaskOf → TaskEnd → List (List ℕ) → Type 0
 AreLines task end lines = HasLines task.request end.text end.early end.reports.items end.start end.unput.items lines
 
@@ -214,7 +214,7 @@ IsJudgedStatus before task early status =
     × (AreWhole (jobs_in p) (streams_in task.service) fates ⊎ IsDecided task.request.mode (map fate_answer fates))
     × (early ≡ None) × IsFateStatus task.request.mode fates status
 
--- the status of a task that comes to its lanes, by what serves its jobs: of stored streams that of their fates
+-- the status of a task that reaches its lanes, by what serves its jobs: of stored streams that of their fates
 abbrev pub IsServedStatus : Service → Store → TaskOf → Option Early → Status → Type 0
 IsServedStatus (StoredStreams paths) before task early status = IsJudgedStatus before task early status
 IsServedStatus (Lanes engines) before task early status = (p : AskedOf) × IsServed (Some before) task p × (early ≡ None)

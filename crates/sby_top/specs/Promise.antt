@@ -6,7 +6,7 @@ use Rattle.sby_terms.specs.declared.names.Mode.{Mode}
 use Rattle.sby_terms.specs.declared.names.Mode.TheVariants.{Bmc, Cover, Prove, ProveInv}
 use Rattle.sby_terms.specs.declared.names.Status.{Status}
 use Rattle.sby_terms.specs.declared.names.Status.TheVariants.{Fail, Memory, Pass}
-use Rattle.sby_top.specs.Claims.{AllExpected, AreExpected, AreShownReaches, HasTold, IsDesignOf, IsEvent, IsHad, IsNamedUnreached, IsShownBreak, IsTaskOf}
+use Rattle.sby_top.specs.Claims.{AllExpected, AreExpected, AreShownReaches, HasTold, IsDesignOf, IsEvent, IsNamedUnreached, IsShownBreak, IsTaskOf, TurnHasRun}
 use Rattle.sby_words.specs.Requests.{Request as Asked}
 use Rattle.sby_words.specs.Words.{IsAsked}
 use Rattle.sby_top.specs.Run.{TurnsDone}
@@ -59,11 +59,11 @@ NamesItsEvent may_read before after words done =
     (m : Moments) (task : TaskOf) (end : TaskEnd) → (is : IsTaskOf may_read before after words done m task end) → IsEvent may_read is.place m task end end.status
 
 -- Each end is that of the turn at its place: of a task that the words ask, or of a fault that is told.
-abbrev pub EachEndIsHad : (ℕ → Type 0) → World → World → List (List ℕ) → Done → Type 0
-EachEndIsHad may_read before after words done =
-    (place : ℕ) (end : TaskEnd) → slice_get done.ends.items place ≡ Some end → (m : Moments) × (turn : Turn) × (had : IsHad may_read before after words done m turn end) × (had.place ≡ place)
+abbrev pub EachEndHasTurn : (ℕ → Type 0) → World → World → List (List ℕ) → Done → Type 0
+EachEndHasTurn may_read before after words done =
+    (place : ℕ) (end : TaskEnd) → slice_get done.ends.items place ≡ Some end → (m : Moments) × (turn : Turn) × (had : TurnHasRun may_read before after words done m turn end) × (had.place ≡ place)
 
--- Exit status 0: all that the words ask ended as expected. The turns are those that were had, however the call is looked at.
+-- Exit status 0: all that the words ask ended as expected. The turns are those that ran, however the call is looked at.
 abbrev pub ZeroIsExpected : (ℕ → Type 0) → World → World → List (List ℕ) → Done → Type 0
 ZeroIsExpected may_read before after words done =
     done.rc ≡ 0 → AllExpected before words done
@@ -72,7 +72,7 @@ ZeroIsExpected may_read before after words done =
 -- What a call for these words promises, from one moment to another. That valid certificates give their verdict is said by the laws of
 -- `laws.rt`.
 pub record Promises (may_read : ℕ → Type 0) (before after : World) (words : List (List ℕ)) (done : Done) : Type 0 where
-  pub every_end : EachEndIsHad may_read before after words done
+  pub every_end : EachEndHasTurn may_read before after words done
   pub pass_of_bmc : OfTasks may_read before after words done PassOfBmc
   pub pass_of_prove : OfTasks may_read before after words done PassOfProve
   pub pass_of_cover : OfTasks may_read before after words done PassOfCover

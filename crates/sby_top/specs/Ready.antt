@@ -36,20 +36,20 @@ IsServing back task p number pool told scripts (Judged reports) = (paths : List 
 IsServing back task p number pool told scripts (LanesReady prepared) =
     (engines : List Engine) × (task.service ≡ Lanes engines) × IsPrepared (racing_of task p number engines) pool prepared × AreNew scripts number (map back (bays_in prepared))
 
--- its design was accepted, its jobs' files stand in the store, what serves its jobs is ready, and there is room for what the reports come to
+-- its design was accepted, its jobs' files stand in the store, what serves its jobs is ready, and there is room for what the reports decide
 pub record IsReady {L : Type 0} (back : L → BackOf) (task : TaskOf) (number : ℕ) (pool : Option PoolOf) (told : Option Store) (scripts : Option YardOf) (ready : Ready L) : Type 0 where
   pub served : (before : Option Store) × IsServed before task ready.problem
   pub files : (engines : List Engine) (store : Store) → task.service ≡ Lanes engines → told ≡ Some store → HasJobFiles (racing_of task ready.problem number engines) store
   pub serving : IsServing back task ready.problem number pool told scripts ready.serving
   pub room : HasRoom (length (jobs_in ready.problem)) (report_count task.service) ready.room
 
--- what came of its jobs: its stored streams were judged, over this store; or its lanes were raced, in bays of a yard with these scripts
+-- what its jobs left: its stored streams were judged, over this store; or its lanes were raced, in bays of a yard with these scripts
 abbrev pub HasCome : {L : Type 0} → (L → BackOf) → TaskOf → AskedOf → ℕ → Option PoolOf → (ℕ → Type 0) → Option Store → Option YardOf → Came L → Type 0
 HasCome back task p number pool may_read told scripts (CameJudged reports) = (paths : List (List ℕ)) × (task.service ≡ Streams paths) × AreStreamReports p told paths reports.items
 HasCome back task p number pool may_read told scripts (CameRaced raced) =
     (engines : List Engine) × (task.service ≡ Lanes engines) × HaveRaced (racing_of task p number engines) pool may_read scripts raced.ran.start raced.ran.reports.items (map back raced.bays.items)
 
--- its design was accepted, its jobs came to this, and there is room for what the reports come to
+-- its design was accepted, its jobs left this, and there is room for what the reports decide
 pub record WasRaced {L : Type 0} (back : L → BackOf) (task : TaskOf) (number : ℕ) (pool : Option PoolOf) (may_read : ℕ → Type 0) (told : Option Store) (scripts : Option YardOf) (raced : Raced L) : Type 0 where
   pub served : (before : Option Store) × IsServed before task raced.problem
   pub came : HasCome back task raced.problem number pool may_read told scripts raced.came

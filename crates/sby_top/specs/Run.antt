@@ -54,7 +54,7 @@ pub record WasRefused (m : Moments) (name : List ℕ) (early : Early) (end : Tas
   pub yard : SameYard m.before m.after
   pub later : m.before.sink_faults ≤ m.after.sink_faults
 
--- a turn, which has this number in its call, was had, at these moments
+-- a turn, which has this number in its call, ran at these moments
 abbrev pub TurnRan : (ℕ → Type 0) → ℕ → Moments → Turn → TaskEnd → Exit → Type 0
 TurnRan may_read number m (Refused name early) end exit = WasRefused m name early end exit
 TurnRan may_read number m (Run task) end exit = TaskRan may_read number m task end exit
@@ -62,16 +62,16 @@ TurnRan may_read number m (Run task) end exit = TaskRan may_read number m task e
 -- What the turns did, numbered from this one on, each at its moments; the exit status of each is or-ed to those before it. A failed call of
 -- the sink ends the run; where memory runs out even for an end, the list of ends stops short. In which order the moments
 -- follow is said by `Follows`.
-abbrev pub Had : (ℕ → Type 0) → ℕ → ℕ → List Turn → List Moments → List TaskEnd → Exit → Type 0
-Had may_read number so_far [] [] [] exit = exit ≡ Code so_far
-Had may_read number so_far (turn ∷ turns) [] [] exit = exit ≡ Code (bit_or so_far 32)
-Had may_read number so_far (turn ∷ turns) (m ∷ ms) (end ∷ ends) exit =
+abbrev pub TurnsRan : (ℕ → Type 0) → ℕ → ℕ → List Turn → List Moments → List TaskEnd → Exit → Type 0
+TurnsRan may_read number so_far [] [] [] exit = exit ≡ Code so_far
+TurnsRan may_read number so_far (turn ∷ turns) [] [] exit = exit ≡ Code (bit_or so_far 32)
+TurnsRan may_read number so_far (turn ∷ turns) (m ∷ ms) (end ∷ ends) exit =
     (TurnRan may_read number m turn end Cut × (ms ≡ []) × (ends ≡ []) × (exit ≡ Cut))
-    ⊎ ((rc : ℕ) × TurnRan may_read number m turn end (Code rc) × Had may_read (number + 1) (bit_or so_far rc) turns ms ends exit)
-Had may_read number so_far [] (m ∷ ms) ends exit = ⊥
-Had may_read number so_far [] [] (end ∷ ends) exit = ⊥
-Had may_read number so_far (turn ∷ turns) (m ∷ ms) [] exit = ⊥
-Had may_read number so_far (turn ∷ turns) [] (end ∷ ends) exit = ⊥
+    ⊎ ((rc : ℕ) × TurnRan may_read number m turn end (Code rc) × TurnsRan may_read (number + 1) (bit_or so_far rc) turns ms ends exit)
+TurnsRan may_read number so_far [] (m ∷ ms) ends exit = ⊥
+TurnsRan may_read number so_far [] [] (end ∷ ends) exit = ⊥
+TurnsRan may_read number so_far (turn ∷ turns) (m ∷ ms) [] exit = ⊥
+TurnsRan may_read number so_far (turn ∷ turns) [] (end ∷ ends) exit = ⊥
 
 -- a task's moments begin at this one, with nothing between its preparing and its race, and its children need no places
 abbrev pub BeginsAt : World → Moments → Type 0
@@ -141,13 +141,13 @@ allowance_of (AskJudge j) = None
 allowance_of (AskGen g) = None
 allowance_of (AskNames file) = None
 
--- the turns were had, under this allowance, or one after the other
+-- the turns ran, under this allowance, or one after the other
 abbrev pub RanUnder : Option ℕ → (ℕ → Type 0) → World → List Turn → List TaskEnd → World → Exit → Type 0
-RanUnder jobs may_read before turns ends after exit = (ms : List Moments) × Had may_read 0 0 turns ms ends exit × Follows jobs may_read turns ms before after exit
+RanUnder jobs may_read before turns ends after exit = (ms : List Moments) × TurnsRan may_read 0 0 turns ms ends exit × Follows jobs may_read turns ms before after exit
 
--- the turns were had, numbered from this one on, one after the other
+-- the turns ran, numbered from this one on, one after the other
 abbrev pub Ran : (ℕ → Type 0) → ℕ → ℕ → World → List Turn → List TaskEnd → World → Exit → Type 0
-Ran may_read number so_far before turns ends after exit = (ms : List Moments) × Had may_read number so_far turns ms ends exit × OneByOne before ms after
+Ran may_read number so_far before turns ends after exit = (ms : List Moments) × TurnsRan may_read number so_far turns ms ends exit × OneByOne before ms after
 
 -- the exit status: exactly 16 where a failed call of the sink cut the run short
 abbrev pub rc_of_exit : Exit → ℕ
@@ -183,7 +183,7 @@ name_lines names = map (λ name. name ++ 10 ∷ []) names
 abbrev pub SameSink : World → World → Type 0
 SameSink before now = now ≡ with_files before (files_of now)
 
--- the turns that words give were had
+-- the turns that words give ran
 pub record TurnsDone (may_read : ℕ → Type 0) (before after : World) (done : Done) (asked : Asked) : Type 0 where
   pub middle : World
   pub turns : List Turn

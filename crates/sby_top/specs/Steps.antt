@@ -94,7 +94,7 @@ IsTrueEnd (CalledOff f) = Unit {0}
 IsTrueEnd (Stopped reading) = Unit {0}
 IsTrueEnd MemoryEnd = Unit {0}
 
--- the end of a job whose stream came to this
+-- the end of a job whose stream was judged as this
 abbrev pub end_of : Result Progress BadCert → JobEnd FindingOf
 end_of (Ok (Done f)) = Found f
 end_of (Ok UnknownProgress) = Unknown

@@ -1,4 +1,4 @@
--- Turns that are had at the same time: what is known of each between its preparing and its lines.
+-- Turns that run at the same time: what is known of each between its preparing and its lines.
 use Rattle.std.specs.Prelude.{◌≡◌, ℕ, ◌+◌, ◌<◌, ◌≤◌, List, [], ◌∷◌, ◌++◌, length, take, Bool, true, false, Option, Some, string_bytes}
 use Rattle.jobs_pool.specs.Places.{PoolOf}
 use Rattle.sby_edge.specs.Child.{YardOf}

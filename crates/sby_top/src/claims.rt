@@ -11,7 +11,7 @@ ghost use Rattle.sby_terms.specs.declared.names.Status.{Status};
 ghost use Rattle.sby_terms.specs.declared.names.Status.TheVariants.{Fail, Memory, Pass};
 ghost use Rattle.sby_top.specs.Claims.{AreShownReaches, HasTold, IsDesignOf, IsNamedUnreached, IsShownBreak, IsStored, IsTaskOf};
 ghost use Rattle.sby_top.specs.Headline.{AreLines, Exit, HasOwnStatus, IsPrinted};
-ghost use Rattle.sby_top.specs.Promise.{EachEndIsHad, FailOfBmc, FailOfCover, FailOfProve, IsProve, LastLine, NamesItsEvent, OfTasks, PassOfBmc, PassOfCover, PassOfProve, Promises, ZeroIsExpected};
+ghost use Rattle.sby_top.specs.Promise.{EachEndHasTurn, FailOfBmc, FailOfCover, FailOfProve, IsProve, LastLine, NamesItsEvent, OfTasks, PassOfBmc, PassOfCover, PassOfProve, Promises, ZeroIsExpected};
 ghost use Rattle.sby_words.specs.Requests.{Request};
 ghost use Rattle.sby_words.specs.Words.{Asks};
 ghost use Rattle.sby_top.specs.Run.{Did, IsNothing, UsageAlone};
@@ -22,10 +22,10 @@ ghost use Rattle.sby_top.specs.declared.outcome.TaskEnd.{TaskEnd};
 
 use sby_edge::Clock;
 
-/// Each end of a call is that of the turn at its place, of a task that the words ask or of a fault that is told: it was had when the turns
-/// before it were.
+/// Each end of a call is that of the turn at its place, of a task that the words ask or of a fault that is told: it ran when the turns
+/// before it had run.
 pub fn each_end_is_of_a_task<C: Clock>(clock: &C)
-    ensures { (before after : World) (words : List (List ℕ)) (done : Done) → Did (C.may_read clock.now) before after words done → EachEndIsHad (C.may_read clock.now) before after words done }
+    ensures { (before after : World) (words : List (List ℕ)) (done : Done) → Did (C.may_read clock.now) before after words done → EachEndHasTurn (C.may_read clock.now) before after words done }
 {}
 
 /// PASS of bmc: the design's text reads a flat design of which no run of more cycles than are skipped breaks an assertion within the depth.

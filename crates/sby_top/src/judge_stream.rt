@@ -29,7 +29,7 @@ fn is_more(answer: &Result<Progress, BadCert>) -> bool
     matches!(answer, Ok(Progress::More))
 }
 
-// The end of a job whose stream came to this. A stream that has ended came to something.
+// Returns the end of a job whose stream was judged as this. A stream that has ended is never judged as More.
 fn end_of(answer: Result<Progress, BadCert>) -> JobEnd<Finding>
     ensures end { result ≡ end_of answer }
     ensures is_true { IsTrueEnd result }

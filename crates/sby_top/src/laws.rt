@@ -49,7 +49,7 @@ use judge::{findings_tell_what_can_be_solved, one_fate, one_file, some_fate};
 use sby_edge::Clock;
 
 /// A design that is not refused is judged: over a store that tells, where no call failed and memory did not run out, and where there is a
-/// job for each stream, the task comes to its lanes, and there is a store at which it was judged; of `--judge` in bmc where there is one
+/// job for each stream, the task reaches its lanes, and there is a store at which it was judged; of `--judge` in bmc where there is one
 /// stream at most.
 pub fn accepted_design_is_judged<C: Clock>(clock: &C)
     ensures bmc { (before after : World) (m : Moments) (words : List (List ℕ)) (done : Done) (j : JudgeRequest) (end : TaskEnd) (store : Store) (text : List ℕ) → (is : IsTaskOf (C.may_read clock.now) before after words done m (judge_task j) end)
@@ -105,7 +105,7 @@ pub fn stored_certificate_gives_its_verdict<C: Clock>(clock: &C)
 
 /// A valid certificate of a child, judged in time, gives its verdict, PASS for Unsat and FAIL for Sat: of bmc of one slice, where the script
 /// of a lane's child is told and has no gate, the lane's engine serves the job, and what the child leaves is valid evidence for this answer: a
-/// certificate of the job's file, as it stands when the task is judged, or a witness that plays: what it writes, up to its stall; or, where the engine's kind is such and that comes to
+/// certificate of the job's file, as it stands when the task is judged, or a witness that plays: what it writes, up to its stall; or, where the engine's kind is such and that decides
 /// nothing, its proof file. Else memory ran out; a reading of the clock showed the limit, with TIMEOUT; or a call for a child of this lane
 /// failed, with ERROR.
 pub fn valid_child_gives_its_verdict<C: Clock>(clock: &C)
@@ -166,7 +166,7 @@ pub fn one_plain_status<C: Clock>(clock: &C)
     one_fate();
 }
 
-/// Lanes that nothing disturbed give Plain's status, which goes by the scripts and the engine lines alone: always where that is a verdict; else
+/// Lanes that nothing disturbed give Plain's status, which depends on the scripts and the engine lines alone: always where that is a verdict; else
 /// so, or some job's finding came by a look, while no lane's end of that job is Found. Nothing disturbs them where the yard tells its scripts
 /// and the task's have no gates, no call for a child failed, there is no timeout or no two readings that the clock may give are the limit
 /// apart, and memory did not run out.

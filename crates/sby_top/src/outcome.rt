@@ -1,11 +1,11 @@
-// What a call came to.
+// The result of a call.
 
 use judge::{Finding, Text};
 use race_core::Report;
 use sby_lines::Early;
 use sby_terms::Status;
 
-/// What a task came to, or a fault that was told in its place.
+/// How a task ended, or a fault that was told in its place.
 #[derive(Drop)]
 pub struct TaskEnd {
     /// The work folder's text.
@@ -23,7 +23,7 @@ pub struct TaskEnd {
     pub text: Text,
 }
 
-/// What a call came to.
+/// The result of a call.
 #[derive(Drop)]
 pub struct Done {
     /// The exit status: the bitwise or over the tasks, with 32 where the list of ends stops short; exactly 16 after a fault of the

@@ -52,14 +52,14 @@ pub enum Serving<'p, L> {
     Lanes(PreparedRace<'p, L>),
 }
 
-/// A task whose design was accepted and whose jobs' files were put, with room for what its reports come to.
+/// A task whose design was accepted and whose jobs' files were put, with room for what its reports decide.
 pub struct Ready<'p, L> {
     pub problem: Problem,
     pub room: Room,
     pub serving: Serving<'p, L>,
 }
 
-/// What came of a task's jobs.
+/// What a task's jobs left.
 pub enum Came<L> {
     /// The report of stored streams.
     Judged(Vec<Report<Finding>>),
@@ -67,14 +67,14 @@ pub enum Came<L> {
     Raced(RacedLanes<L>),
 }
 
-/// A task whose jobs came to something, with room for what its reports come to.
+/// A task whose jobs ended, with room for what its reports decide.
 pub struct Raced<L> {
     pub problem: Problem,
     pub room: Room,
     pub came: Came<L>,
 }
 
-/// A task whose design was accepted: its problem, what its lanes report, and what the reports come to.
+/// A task whose design was accepted: its problem, what its lanes report, and what the reports decide.
 #[derive(Drop)]
 pub struct Served {
     pub problem: Problem,
@@ -485,7 +485,7 @@ impl<R: Threads + Wait + Sync, F: Files, S: Sink, Y: Yard, C: Clock> Host<'_, R,
         }
     }
 
-    /// Takes back the bays of a task that was raced, and collects what its jobs came to.
+    /// Takes back the bays of a task that was raced, and collects what its reports decide.
     pub fn settle(&mut self, number: u32, task: &Task, raced: Raced<Y::Bay>) -> Served
         requires { (pool : Option PoolOf) × (told : Option Store) × WasRaced (back_by Y.Bay.told Y.Bay.start_faults Y.Bay.read_faults Y.Bay.hold_faults)
             (task_seen task.now) number pool (⟦<Self as Outside>⟧.may_read self.old) told (⟦<Self as Outside>⟧.world self.old).yard.scripts raced }

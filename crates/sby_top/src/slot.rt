@@ -1,4 +1,4 @@
-// Turns that are had at the same time, each in its slot.
+// Turns that run at the same time, each in its slot.
 
 ghost use Rattle.std.specs.Prelude.{◌≡◌, All, List, Option, ℕ};
 ghost use Rattle.jobs_pool.specs.Places.{PoolOf};
@@ -17,7 +17,7 @@ use std::sync::Wait;
 use std::thread;
 use std::thread::Threads;
 
-/// What came of a turn so far.
+/// How far a turn is.
 pub enum Stage<'p, L> {
     /// Only a fault is to be told, under this name.
     Refused(String, Early),

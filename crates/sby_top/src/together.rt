@@ -1,11 +1,11 @@
-// Turns that are had at the same time, under an allowance: all are prepared, then raced, then one after the other is shown.
+// Turns that run at the same time, under an allowance: all are prepared, then raced, then one after the other is shown.
 
 ghost use Rattle.std.specs.Prelude.{◌≡◌, ◌<◌, ◌≤◌, ◌+◌, [], ◌∷◌, All, List, ℕ, IfOk, OnErr, Option, Some, length, map, option_map, string_bytes, vec_capacity};
 ghost use Rattle.std.specs.Vec.Iter.{into_iter_items, into_iter_len};
 ghost use Rattle.jobs_pool.specs.Places.{PoolOf, blank};
 ghost use Rattle.sby_edge.specs.Child.{YardOf};
 ghost use Rattle.sby_top.specs.End.{exit_seen};
-ghost use Rattle.sby_top.specs.Ending.{RanTo};
+ghost use Rattle.sby_top.specs.Ending.{RunsTo};
 ghost use Rattle.sby_top.specs.Ready.{back_by};
 ghost use Rattle.sby_top.specs.Run.{ArePrepared, AreShown, AreUntold, TurnRan, TurnUntold};
 ghost use Rattle.sby_top.specs.Turns.{AreTurnsOf, IsSound, Turn as TurnOf, turn_seen};
@@ -96,7 +96,7 @@ impl<R: Threads + Wait + Sync, F: Files, S: Sink, Y: Yard, C: Clock> Host<'_, R,
         }
     }
 
-    // Prepares the turn of the task that is asked for, and answers whether it is had: memory may run out for its name.
+    // Prepares the turn of the task that is asked for, and returns whether it is prepared: memory may run out for its name.
     fn prepare_asked<'p>(
         &mut self,
         book: &Book<'_>,
@@ -115,7 +115,7 @@ impl<R: Threads + Wait + Sync, F: Files, S: Sink, Y: Yard, C: Clock> Host<'_, R,
         ensures allowance { allowance.new ≡ allowance.old }
         ensures keeps { ⟦<Self as Outside>⟧.keeps self.old self.new }
     {
-        // This many turns as a number of 32 bits can't count aren't had.
+        // More turns than a number of 32 bits counts don't run.
         let (Ok(number), Ok(turn)) = (u32::try_from(slots.len()), turn_of(self.alloc, book, asked))
         else {
             return false;
@@ -125,7 +125,7 @@ impl<R: Threads + Wait + Sync, F: Files, S: Sink, Y: Yard, C: Clock> Host<'_, R,
         true
     }
 
-    // Prepares the turns of the tasks of these names, in their order, and answers whether all are had.
+    // Prepares the turns of the tasks of these names, in their order, and returns whether all are prepared.
     fn prepare_named<'p>(
         &mut self,
         book: &Book<'_>,
@@ -154,7 +154,7 @@ impl<R: Threads + Wait + Sync, F: Files, S: Sink, Y: Yard, C: Clock> Host<'_, R,
         true
     }
 
-    // Prepares the turns of the tasks of these names under the allowance of a pool, of which this is a seat, and answers whether all are had.
+    // Prepares the turns of the tasks of these names under the allowance of a pool, of which this is a seat, and returns whether all are prepared.
     fn prepare_all<'p>(
         &mut self,
         book: &Book<'_>,
@@ -260,7 +260,7 @@ impl<R: Threads + Wait + Sync, F: Files, S: Sink, Y: Yard, C: Clock> Host<'_, R,
         requires waiting { (pool : PoolOf) × (start : World) × (turns : List TurnOf) × AreSlotted (back_by Y.Bay.told Y.Bay.start_faults Y.Bay.read_faults Y.Bay.hold_faults) (⟦<Self as Outside>⟧.may_read self.old) pool start (⟦<Self as Outside>⟧.world self.old) turns is_all slots.items }
         requires over { All (λ slot. Holds slot IsOver) slots.items }
         ensures ran { (pool : PoolOf) (start : World) (turns : List TurnOf) → AreSlotted (back_by Y.Bay.told Y.Bay.start_faults Y.Bay.read_faults Y.Bay.hold_faults) (⟦<Self as Outside>⟧.may_read self.old) pool start (⟦<Self as Outside>⟧.world self.old) turns is_all slots.entry.items
-            → RanTo (Some pool.most) (⟦<Self as Outside>⟧.may_read self.old) start turns (⟦<Self as Outside>⟧.world self.new) result }
+            → RunsTo (Some pool.most) (⟦<Self as Outside>⟧.may_read self.old) start turns (⟦<Self as Outside>⟧.world self.new) result }
         ensures keeps { ⟦<Self as Outside>⟧.keeps self.old self.new }
     {
         let mut left = slots.into_iter();
@@ -297,7 +297,7 @@ impl<R: Threads + Wait + Sync, F: Files, S: Sink, Y: Yard, C: Clock> Host<'_, R,
         requires room { length slots.items ≤ vec_capacity ends }
         requires waiting { (pool : PoolOf) × (start : World) × (turns : List TurnOf) × AreSlotted (back_by Y.Bay.told Y.Bay.start_faults Y.Bay.read_faults Y.Bay.hold_faults) (⟦<Self as Outside>⟧.may_read self.old) pool start (⟦<Self as Outside>⟧.world self.old) turns is_all slots.items }
         ensures ran { (pool : PoolOf) (start : World) (turns : List TurnOf) → AreSlotted (back_by Y.Bay.told Y.Bay.start_faults Y.Bay.read_faults Y.Bay.hold_faults) (⟦<Self as Outside>⟧.may_read self.old) pool start (⟦<Self as Outside>⟧.world self.old) turns is_all slots.entry.items
-            → RanTo (Some pool.most) (⟦<Self as Outside>⟧.may_read self.old) start turns (⟦<Self as Outside>⟧.world self.new) result }
+            → RunsTo (Some pool.most) (⟦<Self as Outside>⟧.may_read self.old) start turns (⟦<Self as Outside>⟧.world self.new) result }
         ensures keeps { ⟦<Self as Outside>⟧.keeps self.old self.new }
     {
         let mut slots = slots;
@@ -308,7 +308,7 @@ impl<R: Threads + Wait + Sync, F: Files, S: Sink, Y: Yard, C: Clock> Host<'_, R,
     /// Has the only turn there is, under an allowance of this many children.
     pub fn run_only_together(&mut self, most: u32, turn: Turn) -> Done
         requires { IsSound (turn_seen turn) }
-        ensures ran { RanTo (Some most) (⟦<Self as Outside>⟧.may_read self.old)
+        ensures ran { RunsTo (Some most) (⟦<Self as Outside>⟧.may_read self.old)
             (⟦<Self as Outside>⟧.world self.old) (turn_seen turn ∷ [])
             (⟦<Self as Outside>⟧.world self.new) result }
         ensures keeps { ⟦<Self as Outside>⟧.keeps self.old self.new }
@@ -329,11 +329,11 @@ impl<R: Threads + Wait + Sync, F: Files, S: Sink, Y: Yard, C: Clock> Host<'_, R,
         self.race_and_show(slots, true, ends)
     }
 
-    /// Has the turns of the tasks of these names at the same time, under an allowance of this many children.
+    /// Runs the tasks of these names at the same time, under an allowance of this many children.
     pub fn run_together(&mut self, most: u32, book: &Book<'_>, names: &[String]) -> Done
         requires { 0 < length names.now }
         ensures ran { (turns : List TurnOf) × AreTurnsOf book.now.stem.now (option_map (λ s. s.now) book.now.directory) book.now.config.now (map Some (map string_bytes names.now)) turns
-            × RanTo (Some most) (⟦<Self as Outside>⟧.may_read self.old)
+            × RunsTo (Some most) (⟦<Self as Outside>⟧.may_read self.old)
             (⟦<Self as Outside>⟧.world self.old) turns
             (⟦<Self as Outside>⟧.world self.new) result }
         ensures keeps { ⟦<Self as Outside>⟧.keeps self.old self.new }

@@ -10,7 +10,7 @@ ghost use Rattle.sby_lines.specs.Texts.{usage_line};
 ghost use Rattle.sby_words.specs.Folders.{task_folder};
 ghost use Rattle.sby_words.specs.Requests.{AskGen, AskJudge, AskTasks};
 ghost use Rattle.sby_top.specs.End.{exit_seen};
-ghost use Rattle.sby_top.specs.Ending.{HadAtOnce, IsAsk, RanTo, told_code};
+ghost use Rattle.sby_top.specs.Ending.{IsAsk, RanAtOnce, RunsTo, told_code};
 ghost use Rattle.sby_top.specs.Promise.{Promises};
 ghost use Rattle.sby_top.specs.Run.{Did, LinesAlone, NamesTold, TurnsDone, WasRefused, name_lines, rc_of_exit};
 ghost use Rattle.sby_top.specs.Generated.{gen_stem};
@@ -132,7 +132,7 @@ impl<R: Threads + Wait + Sync, F: Files, S: Sink, Y: Yard, C: Clock> Host<'_, R,
     // Runs a turn.
     fn run_turn(&mut self, number: u32, turn: Turn) -> (TaskEnd, Exit)
         requires { IsSound (turn_seen turn) }
-        ensures had { HadAtOnce (⟦<Self as Outside>⟧.may_read self.old) number
+        ensures had { RanAtOnce (⟦<Self as Outside>⟧.may_read self.old) number
             (⟦<Self as Outside>⟧.world self.old)
             (⟦<Self as Outside>⟧.world self.new)
             (turn_seen turn) result.0 (exit_seen result.1) }
@@ -147,7 +147,7 @@ impl<R: Threads + Wait + Sync, F: Files, S: Sink, Y: Yard, C: Clock> Host<'_, R,
     // Runs the only turn there is, without an allowance.
     fn run_one(&mut self, turn: Turn) -> Done
         requires { IsSound (turn_seen turn) }
-        ensures ran { RanTo None (⟦<Self as Outside>⟧.may_read self.old)
+        ensures ran { RunsTo None (⟦<Self as Outside>⟧.may_read self.old)
             (⟦<Self as Outside>⟧.world self.old) (turn_seen turn ∷ [])
             (⟦<Self as Outside>⟧.world self.new) result }
         ensures keeps { ⟦<Self as Outside>⟧.keeps self.old self.new }
@@ -164,10 +164,10 @@ impl<R: Threads + Wait + Sync, F: Files, S: Sink, Y: Yard, C: Clock> Host<'_, R,
         }
     }
 
-    // Has the only turn there is.
+    // Runs the only turn there is.
     fn run_only(&mut self, jobs: Option<u32>, turn: Turn) -> Done
         requires { IsSound (turn_seen turn) }
-        ensures ran { RanTo jobs (⟦<Self as Outside>⟧.may_read self.old)
+        ensures ran { RunsTo jobs (⟦<Self as Outside>⟧.may_read self.old)
             (⟦<Self as Outside>⟧.world self.old) (turn_seen turn ∷ [])
             (⟦<Self as Outside>⟧.world self.new) result }
         ensures keeps { ⟦<Self as Outside>⟧.keeps self.old self.new }
@@ -188,7 +188,7 @@ impl<R: Threads + Wait + Sync, F: Files, S: Sink, Y: Yard, C: Clock> Host<'_, R,
         ensures room { vec_capacity done.old.ends ≤ vec_capacity done.new.ends }
         ensures keeps { ⟦<Self as Outside>⟧.keeps self.old self.new }
     {
-        // This many turns as a number of 32 bits can't count aren't had.
+        // More turns than a number of 32 bits counts don't run.
         let (Ok(number), Ok(turn)) = (
             u32::try_from(done.ends.len()),
             turn_of(self.alloc, book, asked),
@@ -210,11 +210,11 @@ impl<R: Threads + Wait + Sync, F: Files, S: Sink, Y: Yard, C: Clock> Host<'_, R,
         }
     }
 
-    // Runs the turns of the tasks of these names, one after the other.
+    // Runs the tasks of these names, one after the other.
     fn run_in_turn(&mut self, book: &Book<'_>, names: &[String]) -> Done
         requires { 0 < length names.now }
         ensures ran { (turns : List TurnOf) × AreTurnsOf book.now.stem.now (option_map (λ s. s.now) book.now.directory) book.now.config.now (map Some (map string_bytes names.now)) turns
-            × RanTo None (⟦<Self as Outside>⟧.may_read self.old)
+            × RunsTo None (⟦<Self as Outside>⟧.may_read self.old)
             (⟦<Self as Outside>⟧.world self.old) turns
             (⟦<Self as Outside>⟧.world self.new) result }
         ensures keeps { ⟦<Self as Outside>⟧.keeps self.old self.new }
@@ -232,11 +232,11 @@ impl<R: Threads + Wait + Sync, F: Files, S: Sink, Y: Yard, C: Clock> Host<'_, R,
         done
     }
 
-    // Has the turns of the tasks of these names.
+    // Runs the tasks of these names.
     fn run_named(&mut self, jobs: Option<u32>, book: &Book<'_>, names: &[String]) -> Done
         requires { 0 < length names.now }
         ensures ran { (turns : List TurnOf) × AreTurnsOf book.now.stem.now (option_map (λ s. s.now) book.now.directory) book.now.config.now (map Some (map string_bytes names.now)) turns
-            × RanTo jobs (⟦<Self as Outside>⟧.may_read self.old)
+            × RunsTo jobs (⟦<Self as Outside>⟧.may_read self.old)
             (⟦<Self as Outside>⟧.world self.old) turns
             (⟦<Self as Outside>⟧.world self.new) result }
         ensures keeps { ⟦<Self as Outside>⟧.keeps self.old self.new }
@@ -247,10 +247,10 @@ impl<R: Threads + Wait + Sync, F: Files, S: Sink, Y: Yard, C: Clock> Host<'_, R,
         }
     }
 
-    // Runs the turn of the nameless task.
+    // Runs the nameless task.
     fn run_nameless(&mut self, jobs: Option<u32>, book: &Book<'_>) -> Done
         ensures ran { (turns : List TurnOf) × AreTurnsOf book.now.stem.now (option_map (λ s. s.now) book.now.directory) book.now.config.now (None ∷ []) turns
-            × RanTo jobs (⟦<Self as Outside>⟧.may_read self.old)
+            × RunsTo jobs (⟦<Self as Outside>⟧.may_read self.old)
             (⟦<Self as Outside>⟧.world self.old) turns
             (⟦<Self as Outside>⟧.world self.new) result }
         ensures keeps { ⟦<Self as Outside>⟧.keeps self.old self.new }
@@ -264,7 +264,7 @@ impl<R: Threads + Wait + Sync, F: Files, S: Sink, Y: Yard, C: Clock> Host<'_, R,
     // Runs the turns of the tasks that are asked for: those that are named, else all of the file.
     fn run_book(&mut self, jobs: Option<u32>, book: &Book<'_>, names: &[String]) -> Done
         ensures ran { (turns : List TurnOf) × AreTurnsOf book.now.stem.now (option_map (λ s. s.now) book.now.directory) book.now.config.now (asked_tasks (map string_bytes names.now) book.now.config.now) turns
-            × RanTo jobs (⟦<Self as Outside>⟧.may_read self.old)
+            × RunsTo jobs (⟦<Self as Outside>⟧.may_read self.old)
             (⟦<Self as Outside>⟧.world self.old) turns
             (⟦<Self as Outside>⟧.world self.new) result }
         ensures keeps { ⟦<Self as Outside>⟧.keeps self.old self.new }
@@ -288,7 +288,7 @@ impl<R: Threads + Wait + Sync, F: Files, S: Sink, Y: Yard, C: Clock> Host<'_, R,
         directory: Option<&str>,
         early: Early,
     ) -> Done
-        ensures ran { RanTo jobs (⟦<Self as Outside>⟧.may_read self.old)
+        ensures ran { RunsTo jobs (⟦<Self as Outside>⟧.may_read self.old)
             (⟦<Self as Outside>⟧.world self.old)
             (Refused (task_folder stem.now (option_map (λ s. s.now) directory.entry) []) early ∷ [])
             (⟦<Self as Outside>⟧.world self.new) result }
@@ -310,7 +310,7 @@ impl<R: Threads + Wait + Sync, F: Files, S: Sink, Y: Yard, C: Clock> Host<'_, R,
         text: &[u8],
     ) -> Done
         ensures ran { (turns : List TurnOf) × AreTextTurns stem.now (option_map (λ s. s.now) directory.entry) (map string_bytes names.now) text.now turns
-            × RanTo jobs (⟦<Self as Outside>⟧.may_read self.old)
+            × RunsTo jobs (⟦<Self as Outside>⟧.may_read self.old)
             (⟦<Self as Outside>⟧.world self.old) turns
             (⟦<Self as Outside>⟧.world self.new) result }
         ensures keeps { ⟦<Self as Outside>⟧.keeps self.old self.new }
@@ -428,8 +428,8 @@ impl<R: Threads + Wait + Sync, F: Files, S: Sink, Y: Yard, C: Clock> Host<'_, R,
     }
 }
 
-/// Does all that the program `sby` does: `words` are its arguments, `files` and `out` the file store and the output that it uses. It
-/// answers the exit status, and what each task came to.
+/// Does all that the program `sby` does: `words` are its arguments, `files` and `out` the file store and the output that it uses.
+/// Returns the exit status, and how each task ended.
 ///
 /// Served are all forms of words: `--judge` with stored streams, task files, `--gen` and `--dumptasks`. The jobs of a task file are raced
 /// by its engines, one lane for each, on threads of `rt`: their children are started in bays of `yard`, which all come back to it. `clock`

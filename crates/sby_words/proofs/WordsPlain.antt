@@ -181,38 +181,22 @@ abbrev behind_options : Bool → Option Text → Option Text → Walk
 behind_options force None jobs = behind_jobs force jobs
 behind_options force (Some dir) jobs = option_has (codes "folder") (force_rows force ++ jobs_rows jobs) dir
 
-judge_turn : (force : Bool) (dir jobs : Option Text) → Turn (behind_options force dir jobs) (ready (front force dir jobs Judge)) (codes "--judge")
-unfolding clap_on_literals
-judge_turn true None None = record { to = refl; passes = refl }
-judge_turn true None (Some jobs) = record { to = refl; passes = refl }
-judge_turn true (Some dir) None = record { to = refl; passes = refl }
-judge_turn true (Some dir) (Some jobs) = record { to = refl; passes = refl }
-judge_turn false None None = record { to = refl; passes = refl }
-judge_turn false None (Some jobs) = record { to = refl; passes = refl }
-judge_turn false (Some dir) None = record { to = refl; passes = refl }
-judge_turn false (Some dir) (Some jobs) = record { to = refl; passes = refl }
+-- the turns by the flags of forms
+record FlagTurns (force : Bool) (dir jobs : Option Text) : Type 0 where
+  pub judge : Turn (behind_options force dir jobs) (ready (front force dir jobs Judge)) (codes "--judge")
+  pub names : Turn (behind_options force dir jobs) (ready (front force dir jobs Names)) (codes "--dumptasks")
+  pub gen : Turn (behind_options force dir jobs) (ready (front force dir jobs Gen)) (codes "--gen")
 
-names_turn : (force : Bool) (dir jobs : Option Text) → Turn (behind_options force dir jobs) (ready (front force dir jobs Names)) (codes "--dumptasks")
+flag_turns : (force : Bool) (dir jobs : Option Text) → FlagTurns force dir jobs
 unfolding clap_on_literals
-names_turn true None None = record { to = refl; passes = refl }
-names_turn true None (Some jobs) = record { to = refl; passes = refl }
-names_turn true (Some dir) None = record { to = refl; passes = refl }
-names_turn true (Some dir) (Some jobs) = record { to = refl; passes = refl }
-names_turn false None None = record { to = refl; passes = refl }
-names_turn false None (Some jobs) = record { to = refl; passes = refl }
-names_turn false (Some dir) None = record { to = refl; passes = refl }
-names_turn false (Some dir) (Some jobs) = record { to = refl; passes = refl }
-
-gen_turn : (force : Bool) (dir jobs : Option Text) → Turn (behind_options force dir jobs) (ready (front force dir jobs Gen)) (codes "--gen")
-unfolding clap_on_literals
-gen_turn true None None = record { to = refl; passes = refl }
-gen_turn true None (Some jobs) = record { to = refl; passes = refl }
-gen_turn true (Some dir) None = record { to = refl; passes = refl }
-gen_turn true (Some dir) (Some jobs) = record { to = refl; passes = refl }
-gen_turn false None None = record { to = refl; passes = refl }
-gen_turn false None (Some jobs) = record { to = refl; passes = refl }
-gen_turn false (Some dir) None = record { to = refl; passes = refl }
-gen_turn false (Some dir) (Some jobs) = record { to = refl; passes = refl }
+flag_turns true None None = record { judge = record { to = refl; passes = refl }; names = record { to = refl; passes = refl }; gen = record { to = refl; passes = refl } }
+flag_turns true None (Some jobs) = record { judge = record { to = refl; passes = refl }; names = record { to = refl; passes = refl }; gen = record { to = refl; passes = refl } }
+flag_turns true (Some dir) None = record { judge = record { to = refl; passes = refl }; names = record { to = refl; passes = refl }; gen = record { to = refl; passes = refl } }
+flag_turns true (Some dir) (Some jobs) = record { judge = record { to = refl; passes = refl }; names = record { to = refl; passes = refl }; gen = record { to = refl; passes = refl } }
+flag_turns false None None = record { judge = record { to = refl; passes = refl }; names = record { to = refl; passes = refl }; gen = record { to = refl; passes = refl } }
+flag_turns false None (Some jobs) = record { judge = record { to = refl; passes = refl }; names = record { to = refl; passes = refl }; gen = record { to = refl; passes = refl } }
+flag_turns false (Some dir) None = record { judge = record { to = refl; passes = refl }; names = record { to = refl; passes = refl }; gen = record { to = refl; passes = refl } }
+flag_turns false (Some dir) (Some jobs) = record { judge = record { to = refl; passes = refl }; names = record { to = refl; passes = refl }; gen = record { to = refl; passes = refl } }
 
 tasks_turn : (force : Bool) (dir jobs : Option Text) (word : Text) → Plain word → Turn (behind_options force dir jobs) (behind (front force dir jobs Tasks) word) word
 unfolding clap_on_literals
@@ -227,7 +211,7 @@ tasks_turn false (Some dir) (Some jobs) word p = record { to = rw (p.no_end, p.n
 
 -- ---- all words
 
--- the rows that the walk comes to, and that each turn passes
+-- the rows that the walk ends with, and that each turn passes
 record Walked (rows : List Row) (from : Walk) (words : List Text) : Type 0 where
   pub comes : (settled rules (fold (walked rules []) from words).held).rows ≡ rows
   pub passes : walk_passes whole [] from words ≡ true
@@ -266,17 +250,17 @@ walked_list : (rows : List Row) (word : Text) (words : List Text) → NoWords ro
 walked_list rows word words none p all =
     walked_more (all_rows rows word words) (ready rows) (behind rows word) word words (first_turn rows word (plain word p)) (walked_behind rows word words none all)
 
+walked_flag : (force : Bool) (dir jobs : Option Text) (form : Form) (flag : Text) → Turn (behind_options force dir jobs) (ready (front force dir jobs form)) flag
+    → (word : Text) (words : List Text) → IsPlain word → All IsPlain words → Walked (all_rows (front force dir jobs form) word words) (behind_options force dir jobs) (flag ∷ word ∷ words)
+walked_flag force dir jobs form flag turn word words p all =
+    let rows = front force dir jobs form in
+    walked_more (all_rows rows word words) (behind_options force dir jobs) (ready rows) flag (word ∷ words) turn (walked_list rows word words (no_front_words force dir jobs form) p all)
+
 walked_form : (force : Bool) (dir jobs : Option Text) (form : Form) (word : Text) (words : List Text) → IsPlain word → All IsPlain words
     → Walked (all_rows (front force dir jobs form) word words) (behind_options force dir jobs) (form_words form ++ word ∷ words)
-walked_form force dir jobs Judge word words p all =
-    let rows = front force dir jobs Judge in
-    walked_more (all_rows rows word words) (behind_options force dir jobs) (ready rows) (codes "--judge") (word ∷ words) (judge_turn force dir jobs) (walked_list rows word words (no_front_words force dir jobs Judge) p all)
-walked_form force dir jobs Names word words p all =
-    let rows = front force dir jobs Names in
-    walked_more (all_rows rows word words) (behind_options force dir jobs) (ready rows) (codes "--dumptasks") (word ∷ words) (names_turn force dir jobs) (walked_list rows word words (no_front_words force dir jobs Names) p all)
-walked_form force dir jobs Gen word words p all =
-    let rows = front force dir jobs Gen in
-    walked_more (all_rows rows word words) (behind_options force dir jobs) (ready rows) (codes "--gen") (word ∷ words) (gen_turn force dir jobs) (walked_list rows word words (no_front_words force dir jobs Gen) p all)
+walked_form force dir jobs Judge word words p all = walked_flag force dir jobs Judge (codes "--judge") (flag_turns force dir jobs).judge word words p all
+walked_form force dir jobs Names word words p all = walked_flag force dir jobs Names (codes "--dumptasks") (flag_turns force dir jobs).names word words p all
+walked_form force dir jobs Gen word words p all = walked_flag force dir jobs Gen (codes "--gen") (flag_turns force dir jobs).gen word words p all
 walked_form force dir jobs Tasks word words p all =
     let rows = front force dir jobs Tasks in
     walked_more (all_rows rows word words) (behind_options force dir jobs) (behind rows word) word words (tasks_turn force dir jobs word (plain word p)) (walked_behind rows word words (no_front_words force dir jobs Tasks) all)
@@ -297,7 +281,7 @@ walked_jobs force (Some jobs) rows words on later =
     walked_more rows (ready before) (option_waits (codes "jobs") before) (codes "-j") (jobs ∷ words) (jobs_turn before)
     (walked_more rows (option_waits (codes "jobs") before) (option_has (codes "jobs") before jobs) jobs words (limit_turn before jobs (plain jobs on)) later)
 
--- the words behind `-f`
+-- the words after `-f`
 walked_options : (force : Bool) (dir jobs : Option Text) (form : Form) (word : Text) (words : List Text) → IfSome dir IsPlain → IfSome jobs IsPlain → IsPlain word → All IsPlain words
     → Walked (all_rows (front force dir jobs form) word words) (ready (force_rows force)) (jobs_words jobs ++ (directory_words dir ++ (form_words form ++ word ∷ words)))
 walked_options force dir jobs form word words on limited p all =

@@ -26,7 +26,7 @@ pub fn asked_of(alloc: Global, words: &[String]) -> Result<Option<Asked>, AllocE
     }
 }
 
-/// The same words never ask two things, nor are they both asked and refused.
+/// Words never ask two things, nor are they both asked and refused.
 pub fn words_have_one_request()
     ensures { (words : List (List ℕ)) (a b : Option Request) → IsAsked words a → IsAsked words b → a ≡ b }
 {}

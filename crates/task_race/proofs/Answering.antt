@@ -12,7 +12,7 @@ use Rattle.cert_judge.specs.Fate.{Fate}
 use Rattle.cert_judge.specs.declared.stream.BadCert.{BadCert}
 use Rattle.cert_judge.specs.declared.stream.Kind.{Kind}
 use Rattle.cert_judge.specs.declared.stream.StreamKind.{StreamKind}
-use Rattle.judge.specs.Answers.{Finds, fate_told, state_behind}
+use Rattle.judge.specs.Answers.{Finds, fate_told, state_after}
 use Rattle.judge.specs.Judging.{Ends as JudgeEnds, Feeds as JudgeFeeds, JudgeOf}
 use Rattle.judge.specs.Problem.{AskedOf, IsJobFile}
 use Rattle.judge.specs.Solver.{Ends as SolverEnds, Feeds as SolverFeeds, SolverOf, is_more}
@@ -48,7 +48,7 @@ says_ended p job by bytes (Ok progress.Unknown) finds fate = (fate_told (Ok prog
 says_ended p job by bytes (Err b) finds fate = (fate_told (Err b), (b.kind, refl, refl), fate)
 
 -- where nothing stands yet, the judge reads on
-reads_on : (r : Result Progress BadCert) → judged_as r ≡ judged.More → (state_behind r ≡ Reading) × (fate_told r ≡ None) × (is_more r ≡ true)
+reads_on : (r : Result Progress BadCert) → judged_as r ≡ judged.More → (state_after r ≡ Reading) × (fate_told r ≡ None) × (is_more r ≡ true)
 reads_on (Ok progress.More) h = (refl, refl, refl)
 reads_on (Ok (progress.Done f)) h = absurd cc
 reads_on (Ok progress.Unknown) h = absurd cc

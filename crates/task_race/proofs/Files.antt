@@ -1,8 +1,8 @@
 -- A job's file is the one of its problem.
-use Rattle.std.proofs.Common.{◌≡◌, ◌⊎◌, inl, inr, ℕ, List, refl, sym, ap, ◌∙◌, subst}
+use Rattle.std.proofs.Common.{◌≡◌, inl, inr, ℕ, List, refl, sym, ap, ◌∙◌}
 use Rattle.cnf_form.specs.Dimacs.{dimacs_text}
 use Rattle.job_terms.specs.Encoding.{EncodedOf}
-use Rattle.judge.specs.Problem.{AskedOf, IsEncodedOf, IsFormulaFile, IsJobFile, IsPairFile}
+use Rattle.judge.specs.Problem.{AskedOf, IsFormulaFile, IsJobFile}
 use Rattle.sby_terms.specs.declared.names.JobName.{JobName}
 use Rattle.sby_terms.specs.declared.names.JobName.TheVariants.{Base, Step, Inv, Cover}
 use Rattle.task_race.specs.Serving.{file_of, formula_text}

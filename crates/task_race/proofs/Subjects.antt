@@ -17,8 +17,8 @@ use Rattle.task_race.specs.Fates.{Ends, GoesOn, Proves, ProvesAs, SolverGoesOn, 
 use Rattle.task_race.specs.Watching.{Awaits, EndedSo, FedSo, IsReading, Proving, Watches}
 use Rattle.task_race.specs.declared.evidence.Evidence.{Evidence}
 use Rattle.task_race.specs.declared.evidence.Evidence.TheVariants.{Output, ProofFile}
-use Rattle.task_race.specs.declared.subject.Watch.{Watch}
-use Rattle.task_race.specs.declared.subject.Watch.TheVariants.{Stream, Solver}
+use Rattle.task_race.specs.declared.job_judge.Watch.{Watch}
+use Rattle.task_race.specs.declared.job_judge.Watch.TheVariants.{Stream, Solver}
 
 apart : Reading ≡ Over → ⊥
 apart e = cc

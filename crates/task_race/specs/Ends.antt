@@ -39,8 +39,8 @@ abbrev pub IsProofOf : Option ScriptOf → List ℕ → Type 0
 IsProofOf None proof = Unit {0}
 IsProofOf (Some script) proof = proof ≡ take (most_bytes + 1) script.proof
 
--- The lane's engine serves the job, and its child's stream comes to this as evidence for the job; or the stream leaves that to
--- the proof file, which comes to this.
+-- The lane's engine serves the job, and its child's stream is judged as this, as evidence for the job; or the stream leaves that to
+-- the proof file, which is judged as this.
 abbrev pub IsJudgedAs : RacingOf → Option YardOf → ℕ → JobName → Judged FindingOf → Type 0
 IsJudgedAs racing told lane job said =
     IsServed racing.engines racing.problem lane job

@@ -1,4 +1,4 @@
--- What a child's output, and the proof file after it, come to, as evidence for a job.
+-- What a child's output, and the proof file after it, are judged as, as evidence for a job.
 use Rattle.std.specs.Prelude.{◌≡◌, ◌≢◌, ◌⊎◌, ◌+◌, ◌^◌, ℕ, List, ◌++◌, Option, None, Some, MatchOption, Result, Ok, Err, refl}
 use Rattle.std.proofs.Common.{inl, inr, subst}
 use Rattle.sby_terms.specs.Problem.{ProblemOf}
@@ -29,7 +29,7 @@ use Rattle.task_race.specs.declared.evidence.Evidence.TheVariants.{Output, Proof
 abbrev pub most_bytes : ℕ
 most_bytes = 2 ^ 32
 
--- How many bytes of output come to nothing at most. A byte that may be a word alone is known by the next.
+-- The most bytes of output after which nothing is decided. A byte that may be a word alone is known by the next.
 abbrev pub most_output : Evidence → ℕ
 most_output (Output kind) = most_bytes
 most_output (ProofFile kind) = most_bytes + 1

@@ -16,8 +16,8 @@ use Rattle.lane_run.specs.Judging.{Says}
 use Rattle.task_race.specs.Fates.{Ends, GoesOn, SolverGoesOn, Stands, judged_as, most_output}
 use Rattle.task_race.specs.declared.evidence.Evidence.{Evidence}
 use Rattle.task_race.specs.declared.evidence.Evidence.TheVariants.{Output, ProofFile}
-use Rattle.task_race.specs.declared.subject.Watch.{Watch}
-use Rattle.task_race.specs.declared.subject.Watch.TheVariants.{Stream, Solver}
+use Rattle.task_race.specs.declared.job_judge.Watch.{Watch}
+use Rattle.task_race.specs.declared.job_judge.Watch.TheVariants.{Stream, Solver}
 
 -- the output of a child is judged as its evidence is, by a judge that goes on and has taken these bytes
 abbrev pub Watches : AskedOf → JobName → Evidence → Watch → List ℕ → Type 0

@@ -10,11 +10,11 @@ ghost use Rattle.sby_terms.specs.Span.{slices_of};
 
 use crate::evidence::Evidence;
 use crate::file::ProblemFile;
-use crate::subject::{JobJudge, Watch};
+use crate::job_judge::{JobJudge, Watch};
 use crate::words::{path_of, proof_path, words_of};
 use cert_judge::{Kind, StreamKind};
 use judge::{Finding, Judge, Problem, SolverJudge, serves};
-use lane_run::{Asks, Child, Makes};
+use lane_run::{Child, ForJob, LaneFactory};
 use sby_edge::{Nothing, ToldBytes};
 use sby_terms::{Engine, JobName, MAX_STREAM};
 use std::alloc::{AllocError, Global};
@@ -138,7 +138,7 @@ fn proof_of(
     )
 }
 
-impl<'a> Asks<Finding> for ProblemLanes<'a> {
+impl<'a> ForJob<Finding> for ProblemLanes<'a> {
     ghost problem = { λ l. l.problem.now.problem };
 
     fn is_for(&self, value: &Finding, job: JobName) -> bool {
@@ -146,10 +146,10 @@ impl<'a> Asks<Finding> for ProblemLanes<'a> {
     }
 }
 
-impl<'a> Makes<Finding> for ProblemLanes<'a> {
+impl<'a> LaneFactory<Finding> for ProblemLanes<'a> {
     ghost use Rattle.task_race.specs.Fates.{stays_law};
 
-    type Subject = JobJudge<'a>;
+    type ChildJudge = JobJudge<'a>;
 
     type File = ProblemFile<'a>;
 
@@ -189,7 +189,7 @@ impl<'a> Makes<Finding> for ProblemLanes<'a> {
         let words = words_of(alloc, engine, path, proof.as_str())?;
         let evidence = evidence_of(engine);
         let watch = Box::new(alloc, watch(alloc, self.problem, job, evidence)?)?;
-        let subject = JobJudge {
+        let judge = JobJudge {
             problem: self.problem,
             job,
             evidence,
@@ -198,7 +198,7 @@ impl<'a> Makes<Finding> for ProblemLanes<'a> {
             proof: ToldBytes::of(&Nothing),
         };
         Ok(Child {
-            subject,
+            judge,
             words,
             proof,
         })

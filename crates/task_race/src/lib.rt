@@ -5,17 +5,18 @@
 mod bays;
 mod evidence;
 mod file;
+mod job_judge;
 mod lanes;
 mod laws;
 mod prepare;
 mod racing;
 mod run;
-mod subject;
 mod truth;
 mod words;
 
 pub use evidence::Evidence;
 pub use file::{FileText, ProblemFile};
+pub use job_judge::JobJudge;
 pub use lanes::ProblemLanes;
 pub use laws::{
     each_lane_reports, ends_have_causes, lanes_stop_under_a_limit, streams_give_their_fates,
@@ -24,5 +25,4 @@ pub use laws::{
 pub use prepare::{PreparedRace, cancel_race, prepare_race};
 pub use racing::{Racing, RanLanes, race_task};
 pub use run::{RacedLanes, finish_race, race_prepared, run_race};
-pub use subject::JobJudge;
 pub use words::btor_path;

@@ -64,13 +64,13 @@ fn race_lanes<R: Threads + Wait + Sync, L: Launch + Send, C: Clock>(
         → AreStarts (racing_seen racing.now) (pool_of lanes.entry) (L.told b) (L.told d) i q }
     ensures stopped { All (λ q. LaneStops (C.may_read clock.now) (limit_from (racing_seen racing.now) start) (job_count (racing_seen racing.now)) q) result.reports.items }
 {
-    let makes = ProblemLanes {
+    let factory = ProblemLanes {
         problem: racing.problem,
         engines: racing.engines,
         folder: racing.folder,
     };
     let task = Task {
-        makes: &makes,
+        factory: &factory,
         cells,
         clock,
         mode: racing.problem.mode(),

@@ -1,4 +1,4 @@
-// What lanes report and what reports come to, each call once.
+// What lanes report and what follows from reports, each call once.
 
 use crate::tests::settled::Given;
 use race_core::{

@@ -105,7 +105,7 @@ fn children_play_their_scripts(rt: HostRuntime) -> Result<(), TestFail> {
     Ok(())
 }
 
-// What a child comes to whose first such call fails.
+// How a child ends whose first such call fails.
 fn failing(
     alloc: Global,
     rt: &(impl Wait + SystemClock + Sync),

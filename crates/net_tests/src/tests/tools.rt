@@ -23,7 +23,7 @@ impl<'a> JobFile for GivenFile<'a> {
     }
 }
 
-// A link whose other end sends these bytes, and that moves at most so many in a call; one of its calls fails, if any.
+// A link whose other end sends these bytes, and that moves at most `most` of them in a call; one of its calls fails, if any.
 pub(crate) fn link(
     alloc: Global,
     bytes: &[u8],
@@ -63,7 +63,7 @@ pub(crate) fn joined(alloc: Global, parts: &[&[u8]]) -> Result<Vec<u8>, AllocErr
     Ok(bytes)
 }
 
-// All that a pipe gives, by reads of at most so many bytes.
+// All that a pipe gives, by reads of at most `most` bytes.
 pub(crate) fn all_of<P: Pipe>(
     alloc: Global,
     pipe: &mut P,

@@ -40,7 +40,7 @@ returns-clause-right g c =
 
 pub returns-clause-keeps : goal.returns-clause-keeps
 returns-clause-keeps g c =
-    let of_cell = IsOfCell g.T.Settled.problem g.T.Settled.job (g.J.Asks.problem c.args.watch.now.asks.now) c.args.watch.now.terms.now c.args.watch.now.other in
+    let of_cell = IsOfCell g.T.Settled.problem g.T.Settled.job (g.J.ForJob.problem c.args.watch.now.problem.now) c.args.watch.now.terms.now c.args.watch.now.other in
     let may = g.C.Clock.may_read c.args.watch.now.clock.now in
     let asked = c.ask_proof-part in
     keeps_then of_cell may c.args.notes.now asked.new.notes c.settle-part.new.notes c.args.keeper_events.now.events asked.new.keeper_events.events asked.new.keeper_events.events asked.ensures.keeps

@@ -6,7 +6,7 @@ use Rattle.lane_run.proofs.keeper.look.Goals as goal
 
 pub returns-clause-keeps : goal.returns-clause-keeps
 returns-clause-keeps g c =
-    let of_cell = (IsOfCell g.T.Settled.problem g.T.Settled.job (g.J.Asks.problem c.args.watch.now.asks.now) c.args.watch.now.terms.now c.args.watch.now.other) in
+    let of_cell = (IsOfCell g.T.Settled.problem g.T.Settled.job (g.J.ForJob.problem c.args.watch.now.problem.now) c.args.watch.now.terms.now c.args.watch.now.other) in
     let may = (g.C.Clock.may_read c.args.watch.now.clock.now) in
     let one = keeps_remember of_cell may c.args.notes.now c.needless_at.new.notes c.args.events.now.events c.needless_at.ensures.notes in
     let two = keeps_remember of_cell may c.needless_at.new.notes c.needless_at-2.new.notes c.args.events.now.events c.needless_at-2.ensures.notes in

@@ -16,8 +16,8 @@ use Rattle.lane_run.proofs.lane.run_job.Goals as goal
 pub returns-in_default-clause-so_far : goal.returns-in_default-clause-so_far
 returns-in_default-clause-so_far g c =
     let t = c.args.task.now in
-    let for = IsFor g.T.Settled.problem g.T.Settled.job (g.M.Asks.problem t.makes.now) t.mode in
-    let serves = λ (k : ℕ). g.M.Makes.is_served t.makes.now c.args.report.now.lane (name_at t.mode k) in
+    let for = IsFor g.T.Settled.problem g.T.Settled.job (g.M.ForJob.problem t.factory.now) t.mode in
+    let serves = λ (k : ℕ). g.M.LaneFactory.is_served t.factory.now c.args.report.now.lane (name_at t.mode k) in
     let terms = λ (k : ℕ). terms_of g.T.Settled.job g.T.Settled.answer (terms_at t.mode t.limit k) in
     let may = g.C.Clock.may_read t.clock.now in
     let n = c.args.place in
@@ -30,14 +30,14 @@ returns-in_default-clause-so_far g c =
 pub want_lists-requires-in_default-new-clause-left : goal.want_lists-requires-in_default-new-clause-left
 want_lists-requires-in_default-new-clause-left g c κs within =
     let t = c.args.task.now in
-    next_fresh (IsFor g.T.Settled.problem g.T.Settled.job (g.M.Asks.problem t.makes.now) t.mode) (λ k. g.M.Makes.is_served t.makes.now c.args.report.now.lane (name_at t.mode k))
+    next_fresh (IsFor g.T.Settled.problem g.T.Settled.job (g.M.ForJob.problem t.factory.now) t.mode) (λ k. g.M.LaneFactory.is_served t.factory.now c.args.report.now.lane (name_at t.mode k))
     (λ k. terms_of g.T.Settled.job g.T.Settled.answer (terms_at t.mode t.limit k)) (g.C.Clock.may_read t.clock.now) c.args.place c.args.notes.now c.args.report.now c.requires.so_far c.requires.place.1
 
 pub returns-in_default-new-clause-so_far : goal.returns-in_default-new-clause-so_far
 returns-in_default-new-clause-so_far g c =
     let t = c.args.task.now in
-    let for = IsFor g.T.Settled.problem g.T.Settled.job (g.M.Asks.problem t.makes.now) t.mode in
-    let serves = λ (k : ℕ). g.M.Makes.is_served t.makes.now c.args.report.now.lane (name_at t.mode k) in
+    let for = IsFor g.T.Settled.problem g.T.Settled.job (g.M.ForJob.problem t.factory.now) t.mode in
+    let serves = λ (k : ℕ). g.M.LaneFactory.is_served t.factory.now c.args.report.now.lane (name_at t.mode k) in
     let terms = λ (k : ℕ). terms_of g.T.Settled.job g.T.Settled.answer (terms_at t.mode t.limit k) in
     let may = g.C.Clock.may_read t.clock.now in
     let n = c.args.place in
@@ -50,8 +50,8 @@ returns-in_default-new-clause-so_far g c =
 pub returns-clause-so_far : goal.returns-clause-so_far
 returns-clause-so_far g c =
     let t = c.args.task.now in
-    let for = IsFor g.T.Settled.problem g.T.Settled.job (g.M.Asks.problem t.makes.now) t.mode in
-    let serves = λ (k : ℕ). g.M.Makes.is_served t.makes.now c.args.report.now.lane (name_at t.mode k) in
+    let for = IsFor g.T.Settled.problem g.T.Settled.job (g.M.ForJob.problem t.factory.now) t.mode in
+    let serves = λ (k : ℕ). g.M.LaneFactory.is_served t.factory.now c.args.report.now.lane (name_at t.mode k) in
     let terms = λ (k : ℕ). terms_of g.T.Settled.job g.T.Settled.answer (terms_at t.mode t.limit k) in
     let may = g.C.Clock.may_read t.clock.now in
     let n = c.args.place in
@@ -89,7 +89,7 @@ returns-in_default-clause-stand g c =
 pub returns-in_default-clause-starts : goal.returns-in_default-clause-starts
 returns-in_default-clause-starts g c =
     let t = c.args.task.now in
-    let m = t.makes.now in
+    let m = t.factory.now in
     let n = c.args.place in
     let r = c.args.report.now in
     let lane = r.lane in
@@ -98,7 +98,7 @@ returns-in_default-clause-starts g c =
     let few : n < length r.events = omega (c.requires.place.1, c.requires.so_far.events, arith) in (
       [],
       no_more (g.L.Launch.told c.args.berth.now.bay),
-      in_report c.args.berth.now.pool (g.M.Makes.words m lane) (g.M.Makes.file m) (g.M.Makes.stands m lane) (g.M.Makes.ends m lane) (g.M.Makes.proves m lane) (g.M.Makes.most m) (g.M.Makes.most_output m lane) (name_at t.mode n) (g.L.Launch.told c.args.berth.now.bay) n now end.Memory es []
+      in_report c.args.berth.now.pool (g.M.LaneFactory.words m lane) (g.M.LaneFactory.file m) (g.M.LaneFactory.stands m lane) (g.M.LaneFactory.ends m lane) (g.M.LaneFactory.proves m lane) (g.M.LaneFactory.most m) (g.M.LaneFactory.most_output m lane) (name_at t.mode n) (g.L.Launch.told c.args.berth.now.bay) n now end.Memory es []
           (one_end n r now end.Memory es c.requires.so_far.ends c.want_lists.ensures.report) (one_events n r now end.Memory es c.requires.so_far.ends c.want_lists.ensures.report few) (inl (inl tt, refl, refl)),
     )
 
@@ -109,7 +109,7 @@ returns-in_default-new-clause-stand g c =
 pub returns-in_default-new-clause-starts : goal.returns-in_default-new-clause-starts
 returns-in_default-new-clause-starts g c =
     let t = c.args.task.now in
-    let m = t.makes.now in
+    let m = t.factory.now in
     let n = c.args.place in
     let r = c.args.report.now in
     let lane = r.lane in
@@ -118,7 +118,7 @@ returns-in_default-new-clause-starts g c =
     let few : n < length r.events = omega (c.requires.place.1, c.requires.so_far.events, arith) in (
       [],
       no_more (g.L.Launch.told c.args.berth.now.bay),
-      in_report c.args.berth.now.pool (g.M.Makes.words m lane) (g.M.Makes.file m) (g.M.Makes.stands m lane) (g.M.Makes.ends m lane) (g.M.Makes.proves m lane) (g.M.Makes.most m) (g.M.Makes.most_output m lane) (name_at t.mode n) (g.L.Launch.told c.args.berth.now.bay) n now end.Memory es []
+      in_report c.args.berth.now.pool (g.M.LaneFactory.words m lane) (g.M.LaneFactory.file m) (g.M.LaneFactory.stands m lane) (g.M.LaneFactory.ends m lane) (g.M.LaneFactory.proves m lane) (g.M.LaneFactory.most m) (g.M.LaneFactory.most_output m lane) (name_at t.mode n) (g.L.Launch.told c.args.berth.now.bay) n now end.Memory es []
           (one_end n r now end.Memory es c.requires.so_far.ends c.want_lists-in_default-new.ensures.report) (one_events n r now end.Memory es c.requires.so_far.ends c.want_lists-in_default-new.ensures.report few) (inl (inl tt, refl, refl)),
     )
 
@@ -131,7 +131,7 @@ returns-clause-stand g c =
 pub returns-clause-starts : goal.returns-clause-starts
 returns-clause-starts g c =
     let t = c.args.task.now in
-    let m = t.makes.now in
+    let m = t.factory.now in
     let n = c.args.place in
     let r = c.args.report.now in
     let lane = r.lane in
@@ -143,6 +143,6 @@ returns-clause-starts g c =
     let h = c.do_job-end.ensures.starts in (
       h.0,
       h.1,
-      in_report c.args.berth.now.pool (g.M.Makes.words m lane) (g.M.Makes.file m) (g.M.Makes.stands m lane) (g.M.Makes.ends m lane) (g.M.Makes.proves m lane) (g.M.Makes.most m) (g.M.Makes.most_output m lane) (name_at t.mode n) (g.L.Launch.told c.args.berth.now.bay) n now e es h.0
+      in_report c.args.berth.now.pool (g.M.LaneFactory.words m lane) (g.M.LaneFactory.file m) (g.M.LaneFactory.stands m lane) (g.M.LaneFactory.ends m lane) (g.M.LaneFactory.proves m lane) (g.M.LaneFactory.most m) (g.M.LaneFactory.most_output m lane) (name_at t.mode n) (g.L.Launch.told c.args.berth.now.bay) n now e es h.0
           (one_end n r now e es c.requires.so_far.ends is) (one_events n r now e es c.requires.so_far.ends is few) h.2,
     )

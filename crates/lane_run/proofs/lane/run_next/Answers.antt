@@ -13,8 +13,8 @@ use Rattle.lane_run.proofs.lane.run_next.Goals as goal
 pub returns-in-Some-clause-so_far : goal.returns-in-Some-clause-so_far
 returns-in-Some-clause-so_far g c =
     let t = c.args.task.now in
-    let for = IsFor g.T.Settled.problem g.T.Settled.job (g.M.Asks.problem t.makes.now) t.mode in
-    let serves = λ (k : ℕ). g.M.Makes.is_served t.makes.now c.args.report.now.lane (name_at t.mode k) in
+    let for = IsFor g.T.Settled.problem g.T.Settled.job (g.M.ForJob.problem t.factory.now) t.mode in
+    let serves = λ (k : ℕ). g.M.LaneFactory.is_served t.factory.now c.args.report.now.lane (name_at t.mode k) in
     let terms = λ (k : ℕ). terms_of g.T.Settled.job g.T.Settled.answer (terms_at t.mode t.limit k) in
     let may = g.C.Clock.may_read t.clock.now in
     let x = rw c.ends.ensures at c.in-Some.ensures in
@@ -28,7 +28,7 @@ run_job-requires-clause-free g c κs within =
     let t = c.args.task.now in
     let x = rw c.ends.ensures at c.in-None.ensures in
     let ends = c.requires.so_far.ends in
-    λ l lt last. none_last (IsFor g.T.Settled.problem g.T.Settled.job (g.M.Asks.problem t.makes.now) t.mode) (λ k. g.M.Makes.is_served t.makes.now c.args.report.now.lane (name_at t.mode k))
+    λ l lt last. none_last (IsFor g.T.Settled.problem g.T.Settled.job (g.M.ForJob.problem t.factory.now) t.mode) (λ k. g.M.LaneFactory.is_served t.factory.now c.args.report.now.lane (name_at t.mode k))
     (λ k. terms_of g.T.Settled.job g.T.Settled.answer (terms_at t.mode t.limit k)) (g.C.Clock.may_read t.clock.now) c.args.place c.args.notes.now c.args.report.now c.requires.so_far
     (λ k is lasts. x k (omega (is, ends, arith)) lasts) l lt last
 

@@ -9,10 +9,10 @@ returns-in_default g c =
     let inv = c.loop-left.invariant in
     let some = c.in_default.not-More in
     let rest = c.split_at.result.1.now in
-    let whole : g.S.Subject.proved c.feed_proof.new.self ++ rest ≡ g.S.Subject.proved c.args.subject.now ++ c.args.proof.now =
+    let whole : g.S.ChildJudge.proved c.feed_proof.new.self ++ rest ≡ g.S.ChildJudge.proved c.args.judge.now ++ c.args.proof.now =
     grind (arith, common_steps, c.feed_proof.ensures.proved, c.split_at.ensures.front, c.split_at.ensures.back, inv.whole) in (
       some,
-      subst (λ (bytes : List ℕ). Says (g.S.Subject.proves c.args.subject.now) bytes c.feed_proof.result) whole
-          (says_within (g.S.Subject.proves c.args.subject.now) (g.S.Subject.proves c.loop-left.subject) (g.S.Subject.proved c.feed_proof.new.self ++ rest) c.feed_proof.result inv.same
+      subst (λ (bytes : List ℕ). Says (g.S.ChildJudge.proves c.args.judge.now) bytes c.feed_proof.result) whole
+          (says_within (g.S.ChildJudge.proves c.args.judge.now) (g.S.ChildJudge.proves c.loop-left.judge) (g.S.ChildJudge.proved c.feed_proof.new.self ++ rest) c.feed_proof.result inv.same
           (c.feed_proof.ensures.says some rest)),
     )

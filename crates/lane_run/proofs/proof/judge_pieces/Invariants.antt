@@ -7,7 +7,7 @@ decreases-loop-left g l = length l.left
 
 abbrev pub invariant-loop-left : goal.invariant-loop-left
 invariant-loop-left g l = record {
-  proving : g.S.Subject.proving l.subject;
-  whole : g.S.Subject.proved l.subject ++ l.left ≡ g.S.Subject.proved l.fn.subject ++ l.fn.proof;
-  same : Within (g.S.Subject.proves l.subject) (g.S.Subject.proves l.fn.subject);
+  proving : g.S.ChildJudge.proving l.judge;
+  whole : g.S.ChildJudge.proved l.judge ++ l.left ≡ g.S.ChildJudge.proved l.fn.judge ++ l.fn.proof;
+  same : Within (g.S.ChildJudge.proves l.judge) (g.S.ChildJudge.proves l.fn.judge);
 }

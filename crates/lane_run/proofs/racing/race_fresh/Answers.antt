@@ -35,8 +35,8 @@ gather-requires-clause-cells g c =
 pub returns-clause-done : goal.returns-clause-done
 returns-clause-done g c =
     let t = c.args.task.now in
-    let for = IsFor g.T.Settled.problem g.T.Settled.job (g.M.Asks.problem t.makes.now) t.mode in
-    let serves = λ (i k : ℕ). g.M.Makes.is_served t.makes.now i (name_at t.mode k) in
+    let for = IsFor g.T.Settled.problem g.T.Settled.job (g.M.ForJob.problem t.factory.now) t.mode in
+    let serves = λ (i k : ℕ). g.M.LaneFactory.is_served t.factory.now i (name_at t.mode k) in
     let terms = λ (k : ℕ). terms_of g.T.Settled.job g.T.Settled.answer (terms_at t.mode t.limit k) in
     let may = g.C.Clock.may_read t.clock.now in
     let ran = c.run_lanes.ensures in
@@ -56,8 +56,8 @@ returns-clause-done g c =
 pub returns-clause-consistent : goal.returns-clause-consistent
 returns-clause-consistent g c =
     let t = c.args.task.now in
-    let for = IsFor g.T.Settled.problem g.T.Settled.job (g.M.Asks.problem t.makes.now) t.mode in
-    let serves = λ (i k : ℕ). g.M.Makes.is_served t.makes.now i (name_at t.mode k) in
+    let for = IsFor g.T.Settled.problem g.T.Settled.job (g.M.ForJob.problem t.factory.now) t.mode in
+    let serves = λ (i k : ℕ). g.M.LaneFactory.is_served t.factory.now i (name_at t.mode k) in
     let terms = λ (k : ℕ). terms_of g.T.Settled.job g.T.Settled.answer (terms_at t.mode t.limit k) in
     let may = g.C.Clock.may_read t.clock.now in
     let reports = c.gather.new.raced.reports.items in
@@ -109,20 +109,20 @@ returns-clause-starts g c = λ i b d q was is told.
     let bays = c.gather.ensures.bays ∙ ap (λ (ls : List (Lane g.row.L.Denot g.row.T.Denot)). map bay ls) whole in
     let reports = c.gather.ensures.reports ∙ ap (λ (ls : List (Lane g.row.L.Denot g.row.T.Denot)). map report ls) whole in
     let before = ap (λ (ls : List (Lane g.row.L.Denot g.row.T.Denot)). map bay ls) c.as_mut_slice.ensures.value in
-    let m = c.args.task.now.makes.now in
+    let m = c.args.task.now.factory.now in
     let n = length c.args.task.now.cells.now in
     let told_of = g.L.Launch.told in
     let pool = pool_of c.args.fresh in
     let old = c.as_mut_slice.result.now in
-    related bay report (λ (k h : g.row.L.Denot) (r : ReportOf g.row.T.Denot). LaneStarts pool (g.M.Makes.words m i) (g.M.Makes.file m) (g.M.Makes.stands m i) (g.M.Makes.ends m i) (g.M.Makes.proves m i) (g.M.Makes.most m) (g.M.Makes.most_output m i) c.args.task.now.mode (told_of k) (told_of h) n r)
+    related bay report (λ (k h : g.row.L.Denot) (r : ReportOf g.row.T.Denot). LaneStarts pool (g.M.LaneFactory.words m i) (g.M.LaneFactory.file m) (g.M.LaneFactory.stands m i) (g.M.LaneFactory.ends m i) (g.M.LaneFactory.proves m i) (g.M.LaneFactory.most m) (g.M.LaneFactory.most_output m i) c.args.task.now.mode (told_of k) (told_of h) n r)
     old now i b d q (ap (λ (l : List g.row.L.Denot). slice_get l i) before ∙ was) (ap (λ (l : List g.row.L.Denot). slice_get l i) (sym bays) ∙ is) (ap (λ (l : List (ReportOf g.row.T.Denot)). slice_get l i) (sym reports) ∙ told)
     (λ x lt.
     let at : (slice_index_or old i x).report.lane ≡ i = ap (λ (l : List (Lane g.row.L.Denot g.row.T.Denot)). (slice_index_or l i x).report.lane) c.as_mut_slice.ensures.value
     ∙ c.requires.ready.places i x (subst (λ (l : List (Lane g.row.L.Denot g.row.T.Denot)). i < length l) c.as_mut_slice.ensures.value lt) in
     let under : (slice_index_or old i x).bay.pool ≡ pool = ap (λ (l : List (Lane g.row.L.Denot g.row.T.Denot)). (slice_index_or l i x).bay.pool) c.as_mut_slice.ensures.value
     ∙ (c.requires.ready.free i x (subst (λ (l : List (Lane g.row.L.Denot g.row.T.Denot)). i < length l) c.as_mut_slice.ensures.value lt)).0 in
-    subst (λ (p : Option PoolOf). LaneStarts p (g.M.Makes.words m i) (g.M.Makes.file m) (g.M.Makes.stands m i) (g.M.Makes.ends m i) (g.M.Makes.proves m i) (g.M.Makes.most m) (g.M.Makes.most_output m i) c.args.task.now.mode (told_of (slice_index_or old i x).bay.bay) (told_of (slice_index_or now i x).bay.bay) n (slice_index_or now i x).report) under
-    (subst (λ (lane : ℕ). LaneStarts (slice_index_or old i x).bay.pool (g.M.Makes.words m lane) (g.M.Makes.file m) (g.M.Makes.stands m lane) (g.M.Makes.ends m lane) (g.M.Makes.proves m lane) (g.M.Makes.most m) (g.M.Makes.most_output m lane) c.args.task.now.mode (told_of (slice_index_or old i x).bay.bay) (told_of (slice_index_or now i x).bay.bay) n (slice_index_or now i x).report) at
+    subst (λ (p : Option PoolOf). LaneStarts p (g.M.LaneFactory.words m i) (g.M.LaneFactory.file m) (g.M.LaneFactory.stands m i) (g.M.LaneFactory.ends m i) (g.M.LaneFactory.proves m i) (g.M.LaneFactory.most m) (g.M.LaneFactory.most_output m i) c.args.task.now.mode (told_of (slice_index_or old i x).bay.bay) (told_of (slice_index_or now i x).bay.bay) n (slice_index_or now i x).report) under
+    (subst (λ (lane : ℕ). LaneStarts (slice_index_or old i x).bay.pool (g.M.LaneFactory.words m lane) (g.M.LaneFactory.file m) (g.M.LaneFactory.stands m lane) (g.M.LaneFactory.ends m lane) (g.M.LaneFactory.proves m lane) (g.M.LaneFactory.most m) (g.M.LaneFactory.most_output m lane) c.args.task.now.mode (told_of (slice_index_or old i x).bay.bay) (told_of (slice_index_or now i x).bay.bay) n (slice_index_or now i x).report) at
     (c.run_lanes.ensures.starts i x lt)))
 
 pub returns-clause-stopped : goal.returns-clause-stopped

@@ -14,7 +14,7 @@ returns-clause-done g c = λ k d lt.
     let t = c.args.task.now in
     let less : k < length c.args.lanes.now = omega (lt, arith) in
     let at = (c.for_each_mut.ensures k d less).1 in
-    subst (λ (l : Lane g.row.L.Denot g.row.T.Denot). HasDone (IsFor g.T.Settled.problem g.T.Settled.job (g.M.Asks.problem t.makes.now) t.mode) (λ i k. g.M.Makes.is_served t.makes.now i (name_at t.mode k))
+    subst (λ (l : Lane g.row.L.Denot g.row.T.Denot). HasDone (IsFor g.T.Settled.problem g.T.Settled.job (g.M.ForJob.problem t.factory.now) t.mode) (λ i k. g.M.LaneFactory.is_served t.factory.now i (name_at t.mode k))
     (λ k. terms_of g.T.Settled.job g.T.Settled.answer (terms_at t.mode t.limit k)) (g.C.Clock.may_read t.clock.now) t.cells.now l.report l.notes) at.left at.call.0
 
 pub returns-clause-lanes : goal.returns-clause-lanes
@@ -33,11 +33,11 @@ pub returns-clause-starts : goal.returns-clause-starts
 returns-clause-starts g c = λ k d lt.
     let at = (c.for_each_mut.ensures k d lt).1 in
     let n = length c.args.task.now.cells.now in
-    let m = c.args.task.now.makes.now in
+    let m = c.args.task.now.factory.now in
     let told = g.L.Launch.told in
-    subst (λ (l : Lane g.row.L.Denot g.row.T.Denot). LaneStarts l.bay.pool (g.M.Makes.words m l.report.lane) (g.M.Makes.file m) (g.M.Makes.stands m l.report.lane) (g.M.Makes.ends m l.report.lane) (g.M.Makes.proves m l.report.lane) (g.M.Makes.most m) (g.M.Makes.most_output m l.report.lane) c.args.task.now.mode
+    subst (λ (l : Lane g.row.L.Denot g.row.T.Denot). LaneStarts l.bay.pool (g.M.LaneFactory.words m l.report.lane) (g.M.LaneFactory.file m) (g.M.LaneFactory.stands m l.report.lane) (g.M.LaneFactory.ends m l.report.lane) (g.M.LaneFactory.proves m l.report.lane) (g.M.LaneFactory.most m) (g.M.LaneFactory.most_output m l.report.lane) c.args.task.now.mode
     (told l.bay.bay) (told (slice_index_or c.for_each_mut.new.s k d).bay.bay) n (slice_index_or c.for_each_mut.new.s k d).report) at.argument_is
-    (subst (λ (l : Lane g.row.L.Denot g.row.T.Denot). LaneStarts at.argument.now.bay.pool (g.M.Makes.words m at.argument.now.report.lane) (g.M.Makes.file m) (g.M.Makes.stands m at.argument.now.report.lane) (g.M.Makes.ends m at.argument.now.report.lane) (g.M.Makes.proves m at.argument.now.report.lane) (g.M.Makes.most m) (g.M.Makes.most_output m at.argument.now.report.lane) c.args.task.now.mode
+    (subst (λ (l : Lane g.row.L.Denot g.row.T.Denot). LaneStarts at.argument.now.bay.pool (g.M.LaneFactory.words m at.argument.now.report.lane) (g.M.LaneFactory.file m) (g.M.LaneFactory.stands m at.argument.now.report.lane) (g.M.LaneFactory.ends m at.argument.now.report.lane) (g.M.LaneFactory.proves m at.argument.now.report.lane) (g.M.LaneFactory.most m) (g.M.LaneFactory.most_output m at.argument.now.report.lane) c.args.task.now.mode
     (told at.argument.now.bay.bay) (told l.bay.bay) n l.report) at.left at.call.1.1.1.0)
 
 pub returns-clause-stopped : goal.returns-clause-stopped

@@ -16,7 +16,7 @@ returns-in_default-part g c =
       most = omega (e.piece, i.short, i.buffer, c.deref_mut.ensures.len, arith);
       so_far = e.so_far (g.P.Pipe.told c.args.pipe.now) i.so_far;
       failed = e.failed;
-      comes = comes_within (g.S.Subject.stands c.loop.subject) (g.S.Subject.stands c.args.subject.now) (g.S.Subject.ends c.loop.subject) (g.S.Subject.ends c.args.subject.now)
-          (g.S.Subject.proves c.loop.subject) (g.S.Subject.proves c.args.subject.now) (NoneLeft (g.P.Pipe.told c.read_within-part.new.pipe)) (g.S.Subject.taken c.read_within-part.new.subject) []
+      comes = comes_within (g.S.ChildJudge.stands c.loop.judge) (g.S.ChildJudge.stands c.args.judge.now) (g.S.ChildJudge.ends c.loop.judge) (g.S.ChildJudge.ends c.args.judge.now)
+          (g.S.ChildJudge.proves c.loop.judge) (g.S.ChildJudge.proves c.args.judge.now) (NoneLeft (g.P.Pipe.told c.read_within-part.new.pipe)) (g.S.ChildJudge.taken c.read_within-part.new.judge) []
           c.read_within-part.result i.within i.within_ends i.within_proves e.comes;
     }

@@ -3,6 +3,6 @@ use Rattle.lane_run.proofs.Readers.{AtRead}
 use Rattle.lane_run.proofs.reader.read_out.Given as goal
 
 abbrev pub invariant-loop : goal.invariant-loop
-invariant-loop g l = AtRead (g.S.Subject.goes_on l.subject) (g.S.Subject.stands l.subject) (g.S.Subject.stands l.fn.subject) (g.S.Subject.ends l.subject) (g.S.Subject.ends l.fn.subject)
-    (g.S.Subject.proves l.subject) (g.S.Subject.proves l.fn.subject) (g.S.Subject.most l.subject) (g.S.Subject.most l.fn.subject)
-    (g.P.Pipe.told l.fn.pipe) (g.P.Pipe.told l.pipe) (g.S.Subject.taken l.subject) l.events.events l.events.room (vec_len l.buffer)
+invariant-loop g l = AtRead (g.S.ChildJudge.goes_on l.judge) (g.S.ChildJudge.stands l.judge) (g.S.ChildJudge.stands l.fn.judge) (g.S.ChildJudge.ends l.judge) (g.S.ChildJudge.ends l.fn.judge)
+    (g.S.ChildJudge.proves l.judge) (g.S.ChildJudge.proves l.fn.judge) (g.S.ChildJudge.most l.judge) (g.S.ChildJudge.most l.fn.judge)
+    (g.P.Pipe.told l.fn.pipe) (g.P.Pipe.told l.pipe) (g.S.ChildJudge.taken l.judge) l.events.events l.events.room (vec_len l.buffer)

@@ -7,6 +7,6 @@ abbrev pub invariant-loop-place : goal.invariant-loop-place
 invariant-loop-place g l = record {
   same : l.events ≡ l.fn.events;
   of : AreNotesOf l.watch.cells.now l.notes;
-  keeps : Keeps (IsOfCell g.T.Settled.problem g.T.Settled.job (g.J.Asks.problem l.watch.asks.now) l.watch.terms.now l.watch.other) (g.C.Clock.may_read l.watch.clock.now)
+  keeps : Keeps (IsOfCell g.T.Settled.problem g.T.Settled.job (g.J.ForJob.problem l.watch.problem.now) l.watch.terms.now l.watch.other) (g.C.Clock.may_read l.watch.clock.now)
       l.fn.notes l.notes l.fn.events.events l.fn.events.events;
 }

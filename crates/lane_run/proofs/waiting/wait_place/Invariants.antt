@@ -11,7 +11,7 @@ use Rattle.lane_run.proofs.waiting.wait_place.Given as goal
 
 abbrev pub invariant-loop : goal.invariant-loop
 invariant-loop g l = AtWait
-    (Keeps (IsOfCell g.T.Settled.problem g.T.Settled.job (g.J.Asks.problem l.watch.asks.now) l.watch.terms.now l.watch.other) (g.C.Clock.may_read l.watch.clock.now) l.fn.notes l.notes l.fn.events.events l.events.events)
+    (Keeps (IsOfCell g.T.Settled.problem g.T.Settled.job (g.J.ForJob.problem l.watch.problem.now) l.watch.terms.now l.watch.other) (g.C.Clock.may_read l.watch.clock.now) l.fn.notes l.notes l.fn.events.events l.events.events)
     (AreNotesOf l.watch.cells.now l.notes)
     (TakesTurns (keeper_from (terms_of g.T.Settled.job g.T.Settled.answer l.watch.terms.now) keeper.Fresh l.events.events))
     (place_from Away l.events.events ≡ Away)

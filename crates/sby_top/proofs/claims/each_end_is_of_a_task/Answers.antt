@@ -1,4 +1,4 @@
-use Rattle.sby_top.proofs.HadLemmas.{each_had}
+use Rattle.sby_top.proofs.TurnRunLemmas.{each_had}
 use Rattle.sby_top.proofs.claims.each_end_is_of_a_task.Goals as goal
 
 pub returns : goal.returns

@@ -1,6 +1,6 @@
 use Rattle.sby_top.proofs.ClaimLemmas.{cover_fail_claimed, cover_pass_claimed, fail_claimed, pass_claimed, prove_fail_claimed, prove_pass_claimed}
 use Rattle.sby_top.proofs.EventLemmas.{event_named}
-use Rattle.sby_top.proofs.HadLemmas.{each_had}
+use Rattle.sby_top.proofs.TurnRunLemmas.{each_had}
 use Rattle.sby_top.proofs.PrintedLemmas.{told_status, zero_expected_all}
 use Rattle.sby_top.proofs.claims.output_can_be_read.Goals as goal
 

@@ -1,7 +1,7 @@
 use Rattle.std.proofs.Common.{arith, map, subst, sym}
 use Rattle.std.specs.Prelude.{Some, option_map, string_bytes}
 use Rattle.std.proofs.lemmas.List.{length-map}
-use Rattle.sby_top.specs.Ending.{RanTo}
+use Rattle.sby_top.specs.Ending.{RunsTo}
 use Rattle.sby_top.specs.Ready.{back_by}
 use Rattle.sby_top.specs.Waiting.{AreSlotted}
 use Rattle.sby_top.specs.World.{World, world_at}
@@ -30,6 +30,6 @@ returns-clause-ran g c =
     let ran = c.race_and_show.ensures.ran pool (world_at (g.F.Files.told c.args.self.now.files.now) (g.F.Files.faults c.args.self.now.files.now) (g.F.Files.blamed c.args.self.now.files.now) (g.S.Sink.taken c.args.self.now.out.now) (g.S.Sink.faults c.args.self.now.out.now) (g.S.Sink.ended c.args.self.now.out.now) (yard_at (g.Y.Yard.told c.args.self.now.yard.now) (g.Y.Yard.started c.args.self.now.yard.now) (counts_at (g.Y.Yard.start_faults c.args.self.now.yard.now) (g.Y.Yard.read_faults c.args.self.now.yard.now) (g.Y.Yard.hold_faults c.args.self.now.yard.now)))) s.0 slotted in (
       s.0,
       s.1,
-      subst (λ n. RanTo (Some n) (g.C.Clock.may_read c.args.self.now.clock.now) (world_at (g.F.Files.told c.args.self.now.files.now) (g.F.Files.faults c.args.self.now.files.now) (g.F.Files.blamed c.args.self.now.files.now) (g.S.Sink.taken c.args.self.now.out.now) (g.S.Sink.faults c.args.self.now.out.now) (g.S.Sink.ended c.args.self.now.out.now) (yard_at (g.Y.Yard.told c.args.self.now.yard.now) (g.Y.Yard.started c.args.self.now.yard.now) (counts_at (g.Y.Yard.start_faults c.args.self.now.yard.now) (g.Y.Yard.read_faults c.args.self.now.yard.now) (g.Y.Yard.hold_faults c.args.self.now.yard.now)))) s.0 (world_at (g.F.Files.told c.race_and_show.new.self.files.now) (g.F.Files.faults c.race_and_show.new.self.files.now) (g.F.Files.blamed c.race_and_show.new.self.files.now) (g.S.Sink.taken c.race_and_show.new.self.out.now) (g.S.Sink.faults c.race_and_show.new.self.out.now) (g.S.Sink.ended c.race_and_show.new.self.out.now) (yard_at (g.Y.Yard.told c.race_and_show.new.self.yard.now) (g.Y.Yard.started c.race_and_show.new.self.yard.now) (counts_at (g.Y.Yard.start_faults c.race_and_show.new.self.yard.now) (g.Y.Yard.read_faults c.race_and_show.new.self.yard.now) (g.Y.Yard.hold_faults c.race_and_show.new.self.yard.now)))) c.race_and_show.result) c.in-Ok.ensures.pool.0
-          (subst (λ (k : g.row.C.Denot). RanTo (Some pool.most) (g.C.Clock.may_read k) (world_at (g.F.Files.told c.args.self.now.files.now) (g.F.Files.faults c.args.self.now.files.now) (g.F.Files.blamed c.args.self.now.files.now) (g.S.Sink.taken c.args.self.now.out.now) (g.S.Sink.faults c.args.self.now.out.now) (g.S.Sink.ended c.args.self.now.out.now) (yard_at (g.Y.Yard.told c.args.self.now.yard.now) (g.Y.Yard.started c.args.self.now.yard.now) (counts_at (g.Y.Yard.start_faults c.args.self.now.yard.now) (g.Y.Yard.read_faults c.args.self.now.yard.now) (g.Y.Yard.hold_faults c.args.self.now.yard.now)))) s.0 (world_at (g.F.Files.told c.race_and_show.new.self.files.now) (g.F.Files.faults c.race_and_show.new.self.files.now) (g.F.Files.blamed c.race_and_show.new.self.files.now) (g.S.Sink.taken c.race_and_show.new.self.out.now) (g.S.Sink.faults c.race_and_show.new.self.out.now) (g.S.Sink.ended c.race_and_show.new.self.out.now) (yard_at (g.Y.Yard.told c.race_and_show.new.self.yard.now) (g.Y.Yard.started c.race_and_show.new.self.yard.now) (counts_at (g.Y.Yard.start_faults c.race_and_show.new.self.yard.now) (g.Y.Yard.read_faults c.race_and_show.new.self.yard.now) (g.Y.Yard.hold_faults c.race_and_show.new.self.yard.now)))) c.race_and_show.result) keeps.3 ran),
+      subst (λ n. RunsTo (Some n) (g.C.Clock.may_read c.args.self.now.clock.now) (world_at (g.F.Files.told c.args.self.now.files.now) (g.F.Files.faults c.args.self.now.files.now) (g.F.Files.blamed c.args.self.now.files.now) (g.S.Sink.taken c.args.self.now.out.now) (g.S.Sink.faults c.args.self.now.out.now) (g.S.Sink.ended c.args.self.now.out.now) (yard_at (g.Y.Yard.told c.args.self.now.yard.now) (g.Y.Yard.started c.args.self.now.yard.now) (counts_at (g.Y.Yard.start_faults c.args.self.now.yard.now) (g.Y.Yard.read_faults c.args.self.now.yard.now) (g.Y.Yard.hold_faults c.args.self.now.yard.now)))) s.0 (world_at (g.F.Files.told c.race_and_show.new.self.files.now) (g.F.Files.faults c.race_and_show.new.self.files.now) (g.F.Files.blamed c.race_and_show.new.self.files.now) (g.S.Sink.taken c.race_and_show.new.self.out.now) (g.S.Sink.faults c.race_and_show.new.self.out.now) (g.S.Sink.ended c.race_and_show.new.self.out.now) (yard_at (g.Y.Yard.told c.race_and_show.new.self.yard.now) (g.Y.Yard.started c.race_and_show.new.self.yard.now) (counts_at (g.Y.Yard.start_faults c.race_and_show.new.self.yard.now) (g.Y.Yard.read_faults c.race_and_show.new.self.yard.now) (g.Y.Yard.hold_faults c.race_and_show.new.self.yard.now)))) c.race_and_show.result) c.in-Ok.ensures.pool.0
+          (subst (λ (k : g.row.C.Denot). RunsTo (Some pool.most) (g.C.Clock.may_read k) (world_at (g.F.Files.told c.args.self.now.files.now) (g.F.Files.faults c.args.self.now.files.now) (g.F.Files.blamed c.args.self.now.files.now) (g.S.Sink.taken c.args.self.now.out.now) (g.S.Sink.faults c.args.self.now.out.now) (g.S.Sink.ended c.args.self.now.out.now) (yard_at (g.Y.Yard.told c.args.self.now.yard.now) (g.Y.Yard.started c.args.self.now.yard.now) (counts_at (g.Y.Yard.start_faults c.args.self.now.yard.now) (g.Y.Yard.read_faults c.args.self.now.yard.now) (g.Y.Yard.hold_faults c.args.self.now.yard.now)))) s.0 (world_at (g.F.Files.told c.race_and_show.new.self.files.now) (g.F.Files.faults c.race_and_show.new.self.files.now) (g.F.Files.blamed c.race_and_show.new.self.files.now) (g.S.Sink.taken c.race_and_show.new.self.out.now) (g.S.Sink.faults c.race_and_show.new.self.out.now) (g.S.Sink.ended c.race_and_show.new.self.out.now) (yard_at (g.Y.Yard.told c.race_and_show.new.self.yard.now) (g.Y.Yard.started c.race_and_show.new.self.yard.now) (counts_at (g.Y.Yard.start_faults c.race_and_show.new.self.yard.now) (g.Y.Yard.read_faults c.race_and_show.new.self.yard.now) (g.Y.Yard.hold_faults c.race_and_show.new.self.yard.now)))) c.race_and_show.result) keeps.3 ran),
     )
