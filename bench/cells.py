@@ -115,7 +115,7 @@ class Machine(Module):
 
 
 def design(kind, dice, goal, cells=0):
-    """A design around a cell of this kind, with so many others beside it; goal: assert or cover. In some the statements are about a
+    """A design around a cell of this kind, with this many others beside it; goal: assert or cover. In some the statements are about a
     register that starts as one digit and takes what the cell gives, so that runs have several cycles."""
     m, start = Machine(dice), dice.choice(["0", "1", None])
     for _ in range(dice.randint(1, 3)):

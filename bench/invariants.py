@@ -5,7 +5,7 @@ import sys
 import tempfile
 
 from emission import turns
-from measure import compile_rup, last_line, program, ratio, run
+from measure import compile_checker, last_line, program, ratio, run
 from rtlil import Module
 
 # bits of the ring, and clauses of the invariant for each of them
@@ -101,7 +101,7 @@ def main():
         if words.only not in name:
             continue
         with tempfile.TemporaryDirectory() as folder:
-            rup, said = compile_rup(folder), os.path.join(folder, "said")
+            rup, said = compile_checker(folder), os.path.join(folder, "said")
             ring(size).write(os.path.join(folder, "x.il"))
             write(os.path.join(folder, "base.drup"), [()])
             judge = [sby, "--judge", "x.il", "prove-inv", "1"]

@@ -18,7 +18,7 @@ HERE = os.path.dirname(os.path.abspath(__file__))
 from engine import ANSWERS, values_fault
 from long_nets import NETS
 from long_sources import DESIGNS, text
-from measure import FILE_LIMIT, Run, compile_rup, last_line, program
+from measure import FILE_LIMIT, Run, compile_checker, last_line, program
 
 FLOW = ("read_verilog -formal -sv x.v; prep -flatten -top top; async2sync; memory_map; chformal -early; opt_clean; "
         "rename -enumerate; write_rtlil x.il")
@@ -232,10 +232,10 @@ def main():
     print(f"{'':22}{'':6}{'':9}{'':10}|{'cadical':>31} |{'minisat':>23} |{'engine':>31} |{'whole run: user s':>30}"
           f"{'waits %':>10} | {'ratios':>26}")
     print(f"{'formula':22}{'':6}{'vars':>9}{'clauses':>10}|{'s':>8}{'MB':>6}{'proof':>7}{'rup s':>10} |{'s':>8}{'MB':>6}{'conf':>9} |"
-          f"{'s':>8}{'MB':>6}{'proof':>7}{'rup s':>10} |{'enc':>6}{'engine':>8}{'judge':>8}{'wall':>8}{'en':>5}{'ju':>5} |"
+          f"{'s':>8}{'MB':>6}{'proof':>7}{'check s':>10} |{'enc':>6}{'engine':>8}{'judge':>8}{'wall':>8}{'en':>5}{'ju':>5} |"
           f"{'en/ca':>7}{'en/mi':>7}{'wh/ca':>7}{'ju/ru':>7}  whole", flush=True)
     with tempfile.TemporaryDirectory() as folder:
-        rup = compile_rup(folder)
+        checkers = {"cadical": compile_checker(folder), "engine": compile_checker(folder, "lrat" if words.hints else "rup")}
         at = {x: os.path.join(folder, x) for x in ("f.cnf", "stream", "proof", "said", "ca", "mi", "r")}
         for name, (answer, _) in chosen(words).items():
             encode = make(name, sby, folder, limit)
@@ -247,9 +247,9 @@ def main():
             faults, runs, checks = [], {"cadical": None, "minisat": None, "engine": None}, {}
 
             def check(formula, proof, tool):
-                if "rup" in skip or (words.hints and tool == "engine") or runs[tool] is None or runs[tool].code != 20 or runs[tool].over:
+                if "rup" in skip or runs[tool] is None or runs[tool].code != 20 or runs[tool].over:
                     return
-                checks[tool] = run([rup, formula, proof], limit, at["r"])
+                checks[tool] = run([checkers[tool], formula, proof], limit, at["r"])
                 if not checks[tool].over and checks[tool].code != 20:
                     faults.append(f"{tool}'s proof: {last_line(at['r'])}")
 
