@@ -12,7 +12,7 @@ The rule, for each crate but those of tests, of what `src/lib.rt` makes public (
 - each trait with an `ensures`.
 
 How many functions and methods with an `ensures` are left out is said in the crate's line. The layers are those of
-docs/ARCHITECTURE.md; a crate of crates.txt that isn't there, or the other way round, is an error.
+docs/ARCHITECTURE.md; other crates in crates.txt, or another order, are an error.
 """
 import pathlib
 import re
@@ -37,11 +37,11 @@ LIBRARY = set("OnOk OnErr IfOk IsOk IsErr IsTrue IsFalse Ok Err Some None IfSome
 
 def layers():
     """Yields (layer, crates) as docs/ARCHITECTURE.md has them, without the tests."""
-    text = (ROOT / "docs/ARCHITECTURE.md").read_text().split("\n## Crate by crate\n")[1]
-    for part in text.split("\n### ")[1:]:
-        name, _, table = part.partition("\n")
+    table = (ROOT / "docs/ARCHITECTURE.md").read_text().split("\n## Crate by crate\n")[1]
+    for part in table.split("\n| **")[1:]:
+        name, _, rows = part.partition("** |")
         if name != "Tests":
-            yield name, re.findall(r"^\| (\w+) \|", table, re.M)[1:]
+            yield name, re.findall(r"^\| (\w+) \|", rows, re.M)
 
 
 def sentence(text):
@@ -118,12 +118,13 @@ def crate_part(crate):
 
 
 def page():
-    """The whole page; ends the program where crates.txt and docs/ARCHITECTURE.md have other crates."""
+    """The whole page; ends the program where crates.txt and docs/ARCHITECTURE.md have other crates, or another order."""
     parts = [(layer, crates) for layer, crates in layers()]
     there = re.findall(r"^(\w+):", (ROOT / "crates.txt").read_text(), re.M)
-    wanted = {crate for crate in there if not crate.endswith("_tests") and crate != "run_scenes"}
-    if other := wanted ^ {crate for _, crates in parts for crate in crates}:
-        sys.exit(f"crates.txt and docs/ARCHITECTURE.md differ in {', '.join(sorted(other))}")
+    wanted = [crate for crate in there if not crate.endswith("_tests") and crate != "run_scenes"]
+    named = [crate for _, crates in parts for crate in crates]
+    if wanted != named:
+        sys.exit(f"crates.txt and docs/ARCHITECTURE.md differ in {', '.join(sorted(set(wanted) ^ set(named))) or 'their order'}")
     told = [f"## {layer}\n\n" + "\n".join(map(crate_part, crates)) + "\n" for layer, crates in parts]
     return "\n".join([HEAD, *told])
 

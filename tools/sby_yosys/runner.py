@@ -74,7 +74,7 @@ def watch(pipe, log):
 
 
 class Sby:
-    """The program sby, with at most so many engines of a task at a time (None: all)."""
+    """The program sby, with at most this many engines of a task at a time (None: all)."""
 
     def __init__(self, program, jobs):
         self.front = [program] if jobs is None else [program, "-j", str(min(jobs, 64))]

@@ -4,7 +4,7 @@
     tools/tests/run.py [--sby PATH] [NAME ..]
 
 Needs Yosys; with iverilog in the path the traces are replayed too. Prints a line for each test that fails, and last
-'N passed, M failed', with a word behind where nothing was replayed. Exit status 0 where none failed.
+'N passed, M failed', with a word after it where nothing was replayed. Exit status 0 where none failed.
 """
 import argparse
 import os

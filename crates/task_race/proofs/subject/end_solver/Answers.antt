@@ -1,6 +1,0 @@
-use Rattle.task_race.proofs.Answering.{solver_ended}
-use Rattle.task_race.proofs.subject.end_solver.Goals as goal
-
-pub returns : goal.returns
-returns c = λ p job kind bytes goes.
-    rw c.judged.ensures (solver_ended p job kind c.args.judge.now c.end.new.self bytes bytes goes c.end.result (c.end.ensures.ends bytes goes.took))
