@@ -1,8 +1,13 @@
+mod Steps
 mod PrintedWords
-mod PrintedSignals
-mod PrintedCells
-mod PrintedWires
+mod ConstantSteps
+mod ConstantForms
+mod SignalSteps
+mod CellWords
+mod CellSteps
+mod WireSteps
+mod FileSteps
+mod PrintedParts
 mod PrintedDesigns
 mod PrintedTexts
 mod Printable
-mod SignalSteps

@@ -18,7 +18,7 @@ use Rattle.design_core.specs.declared.digit.Digit.TheVariants.{Const as ConstDig
 use Rattle.design_core.specs.declared.names.ParameterName.{ParameterName}
 use Rattle.design_core.specs.declared.names.PortName.{PortName}
 use Rattle.design_core.specs.declared.parts.Port.{Port}
-use Rattle.design_signals.specs.Parts.{slice_row}
+use Rattle.design_signals.specs.Parts.{slice_row, wire_row}
 use Rattle.design_signals.specs.declared.sig_bit.SigBit.{SigBit}
 use Rattle.design_signals.specs.declared.sig_bit.SigBit.TheVariants.{Free}
 use Rattle.indexmap.proofs.ReorderLemmas.{map-reverse}
@@ -35,9 +35,7 @@ use Rattle.design_reader.specs.declared.spot.Target.{Target}
 use Rattle.design_reader.specs.declared.spot.Target.TheVariants.{Port as ToPort, Left, Right}
 use Rattle.design_reader.specs.declared.spot.Spot.{Spot}
 use Rattle.design_reader.specs.declared.spot.Spot.TheVariants.{File, AutoIdx, FileAttribute, FileValue, Module, Line, Attribute, Value, ModuleParameter, ModuleParameterValue, WireOption, WireNumber, CellType, CellName, CellLine, CellParameter, CellParameterName, CellParameterValue, Port as PortSpot, Signal, Part}
-use Rattle.reader_law.proofs.PrintedCells.{HasBits, both_no, port_at, value_same}
-use Rattle.reader_law.proofs.PrintedSignals.{row_long}
-use Rattle.reader_law.proofs.PrintedDesigns.{all_join}
+use Rattle.reader_law.proofs.CellWords.{distinct_push, HasBits, both_no, port_at, value_same}
 use Rattle.design_reader.proofs.Room.{reading_kept}
 
 abbrev Row : Type 0
@@ -83,13 +81,6 @@ any_parts p (x ∷ xs) ys h =
 any_join : (p : Word → Bool) (xs ys : List Word) → list_any p xs ≡ false → list_any p ys ≡ false → list_any p (xs ++ ys) ≡ false
 any_join p [] ys h k = k
 any_join p (x ∷ xs) ys h k = let a = both_no (p x) _ h in rw a.0 (any_join p xs ys a.1 k)
-
-distinct_push : (xs : List Word) (name : Word) → IsDistinct bytes_eq xs → list_any (λ n. bytes_eq n name) xs ≡ false → IsDistinct bytes_eq (xs ++ name ∷ [])
-unfolding IsDistinct
-distinct_push [] name u h = (tt, tt)
-distinct_push (x ∷ xs) name u h =
-    let a = both_no (bytes_eq x name) _ h in
-    (all_join (λ (y : Word). bytes_eq x y ≡ false) xs (name ∷ []) u.0 (a.0, tt), distinct_push xs name u.1 a.1)
 
 -- ---- what is read so far
 
@@ -536,6 +527,10 @@ place_inside names name i h = by (position_or_len (λ n. bytes_eq n name) names)
     by : (k : ℕ) (v : Bool) → nat_lt k (length names) ≡ v → cond v (Some k) None ≡ Some i → i < length names
     by k true e h = let same : k ≡ i = cc in let less = ltb-true k (length names) e in omega (arith, same, less)
     by k false e h = absurd cc
+
+row_long : (w n : ℕ) → length (wire_row w n) ≡ n
+row_long w zero = refl
+row_long w (suc n) = ap suc (row_long w n)
 
 row_some : (wires : List WireOf) (k i : ℕ) → i < length wires → AllByRecursion (λ w. 0 < w.width) wires → 0 < length (row_at k (slice_get wires i))
 row_some [] k i h a = absurd (omega arith)

@@ -1,22 +1,21 @@
--- A design that is printed is read as that design.
-use Rattle.std.proofs.Common.{◌≡◌, ℕ, zero, suc, ◌+◌, ◌<◌, ◌≤◌, Bool, true, false, cond, List, [], ◌∷◌, ◌++◌, map, length, Option, Some, refl, sym, ap, ◌∙◌, subst, append-nil, append_assoc, arith, bytes_eq}
+-- The printed form of a design is a file's text.
+use Rattle.std.proofs.Common.{◌≡◌, ℕ, suc, ◌+◌, ◌<◌, ◌≤◌, Bool, true, false, cond, List, [], ◌∷◌, ◌++◌, map, length, Option, Some, refl, sym, ap, ◌∙◌, subst, append-nil, append_assoc, arith, bytes_eq}
 use Rattle.std.specs.Prelude.{codes, ◌==◌, flat_map, slice_get, All}
-use Rattle.std.specs.List.{AllByRecursion, IsDistinct, sum_by}
+use Rattle.std.specs.List.{AllByRecursion, IsDistinct}
 use Rattle.std.proofs.lemmas.Bool.{eq-eqb, eqb-true, eqb-false, ne_eqb}
 use Rattle.std.proofs.lemmas.List.{length-append}
 use Rattle.std.proofs.lemmas.List.Elements.{All-head, All-tail, filter-append, recursion_from_All}
-use Rattle.std.proofs.lemmas.List.Sums.{sum_by-cons}
-use Rattle.std.proofs.lemmas.Option.{slice_get_within, get_or_from_slice_get}
 use Rattle.rtlil_constant.specs.Constants.{Word}
 use Rattle.design_core.specs.Shape.{WireOf, CellOf, ConnectOf, DesignOf, IsWire, IsCellOf, IsConnectOf, IsFileOrder, wire_bits}
-use Rattle.design_reader.specs.Parts.{DraftOf, no_attributes}
-use Rattle.design_reader.specs.Grammar.{wire_names, goes_on, most_bits, line, name_step, new_draft, step, steps, word_step}
+use Rattle.design_reader.specs.Grammar.{most_bits, new_draft}
+use Rattle.reader_law.specs.FileTexts.{IsModuleText, IsFileText}
+use Rattle.reader_law.specs.FileTexts.IsFileLines.{no_line}
+use Rattle.reader_law.specs.FileTexts.IsModuleText.{name_line}
+use Rattle.std.proofs.lemmas.Grind.{flat_map-append}
 use Rattle.reader_law.specs.Printed.{Line, cell_lines, connect_line, connects_after, items_after, wire_lines, design_words, cell_numbers, connect_numbers, IsIdentifier, IsPrintableCell, IsPrintable}
-use Rattle.design_reader.specs.declared.spot.Spot.{Spot}
-use Rattle.design_reader.specs.declared.spot.Spot.TheVariants.{File, Module, Line as LineSpot}
-use Rattle.reader_law.proofs.PrintedSignals.{AreNamed, Next, next_range, next_rises, next_split, one, step_named}
-use Rattle.reader_law.proofs.PrintedCells.{HasBits, HasShort, IsKey, IsLeft, cell_added, cell_steps, connect_lines, connects_added, connects_steps, fresh_name, key_left, words_in}
-use Rattle.reader_law.proofs.PrintedWires.{IsPrintableWire, wires_added, wires_steps}
+use Rattle.reader_law.proofs.Steps.{AreNamed, Next, all_join, all_parts, are_named, next_range, next_rises, next_split}
+use Rattle.reader_law.proofs.CellWords.{HasBits, HasShort, connect_lines, fresh_name, words_in}
+use Rattle.reader_law.proofs.PrintedParts.{IsPrintableWire, cell_module, connects_module, filled, wires_module}
 
 abbrev Connects : Type 0
 Connects = List ConnectOf
@@ -102,22 +101,11 @@ last_here n (j ∷ js) r h =
     let e : (j.cells_before == n) ≡ true = eq-eqb j.cells_before n (omega (arith, r.0, h.0)) in
     rw e (ap (λ (x : Connects). j ∷ x) (last_here n js (rising_lower n j.cells_before js r.0 r.1) h.1))
 
-pub all_parts : {X : Type 0} (P : X → Type 0) (xs ys : List X) → AllByRecursion P (xs ++ ys) → AllByRecursion P xs × AllByRecursion P ys
-all_parts P [] ys h = (tt, h)
-all_parts P (x ∷ xs) ys h = let r = all_parts P xs ys h.1 in ((h.0, r.0), r.1)
-
-pub all_join : {X : Type 0} (P : X → Type 0) (xs ys : List X) → AllByRecursion P xs → AllByRecursion P ys → AllByRecursion P (xs ++ ys)
-all_join P [] ys h k = k
-all_join P (x ∷ xs) ys h k = (h.0, all_join P xs ys h.1 k)
-
 all_turned : {X : Type 0} (P Q : X → Type 0) (xs : List X) → ((x : X) → P x → Q x) → AllByRecursion P xs → AllByRecursion Q xs
 all_turned P Q [] f h = tt
 all_turned P Q (x ∷ xs) f h = (f x h.0, all_turned P Q xs f h.1)
 
 -- ---- cells and connects
-
-abbrev Top : Spot
-Top = LineSpot no_attributes
 
 abbrev lines_after : List WireOf → ℕ → List CellOf → Connects → List Line
 lines_after wires n cells connects = items_after (cell_lines wires) (λ j. connect_line wires j ∷ []) n cells connects
@@ -125,119 +113,104 @@ lines_after wires n cells connects = items_after (cell_lines wires) (λ j. conne
 abbrev numbers_after : ℕ → List CellOf → Connects → List ℕ
 numbers_after n cells connects = items_after cell_numbers connect_numbers n cells connects
 
-abbrev made : DraftOf → List CellOf → Connects → ℕ → List Word → DraftOf
-made d cells connects m names = record { design = record d.design { cells = cells; connects = connects; free = m }; cells = names }
-
-made_same : (d : DraftOf) (cells others : List CellOf) (connects more : Connects) (m : ℕ) (names words : List Word) → cells ≡ others → connects ≡ more → names ≡ words → made d cells connects m names ≡ made d others more m words
-made_same d cells others connects more m names words a b c = rw (a, b, c) refl
-
 abbrev cell_names : List CellOf → List Word
 cell_names cells = map (λ c. c.name) cells
 
-abbrev filled : DraftOf → List CellOf → Connects → ℕ → DraftOf
-filled d cells connects m = made d (d.design.cells ++ cells) (d.design.connects ++ connects) m (d.cells ++ cell_names cells)
-
 -- what is true where these cells and connects come next, with free bits up to m
-record IsBody (d : DraftOf) (cells : List CellOf) (connects : Connects) (m total : ℕ) : Type 0 where
-  named : AreNamed d.design.wires
-  room : wire_bits d.design + m ≤ most_bits
-  done : AllByRecursion (λ j. j.cells_before < length d.design.cells) d.design.connects
-  rising : Rising (length d.design.cells) connects
-  last : AllByRecursion (λ j. j.cells_before ≤ length d.design.cells + length cells) connects
-  connected : AllByRecursion (IsConnectOf d.design.wires total) connects
+record IsBody (d : DesignOf) (names : List Word) (cells : List CellOf) (connects : Connects) (m total : ℕ) : Type 0 where
+  named : AreNamed d.wires
+  room : wire_bits d + m ≤ most_bits
+  done : AllByRecursion (λ j. j.cells_before < length d.cells) d.connects
+  rising : Rising (length d.cells) connects
+  last : AllByRecursion (λ j. j.cells_before ≤ length d.cells + length cells) connects
+  connected : AllByRecursion (IsConnectOf d.wires total) connects
   bits : AllByRecursion HasBits connects
-  cells_are : AllByRecursion (IsCellOf d.design.wires total) cells
+  cells_are : AllByRecursion (IsCellOf d.wires total) cells
   printable : AllByRecursion IsPrintableCell cells
   short : AllByRecursion HasShort cells
-  names : IsDistinct bytes_eq (d.cells ++ cell_names cells)
+  apart : IsDistinct bytes_eq (names ++ cell_names cells)
 
-cell_key : IsKey (codes "cell")
-cell_key = record { name = refl; slice = refl }
+module_same : (ws vs : Line) (d e : DesignOf) (names others : List Word) → ws ≡ vs → d ≡ e → names ≡ others → IsModuleText ws d names → IsModuleText vs e others
+module_same ws vs d e names others a b c p =
+    subst (λ (x : List Word). IsModuleText vs e x) c (subst (λ (x : DesignOf). IsModuleText vs x names) b (subst (λ (x : Line). IsModuleText x d names) a p))
 
-body_steps : (d : DraftOf) (cells : List CellOf) (connects : Connects) (m total : ℕ) (rest : List Line) → IsLeft (words_in rest) → IsBody d cells connects m total
-    → Next d.design.free (numbers_after (length d.design.cells) cells (d.design.connects ++ connects)) m
-    → steps d Top (words_in (lines_after d.design.wires (length d.design.cells) cells (d.design.connects ++ connects) ++ rest)) ≡ steps (filled d cells connects m) Top (words_in rest)
-body_steps d [] connects m total rest l b next =
-    let n = length d.design.cells in
+filled_same : (d : DesignOf) (cells others : List CellOf) (connects more : Connects) (m : ℕ) → cells ≡ others → connects ≡ more → filled d cells connects m ≡ filled d others more m
+filled_same d cells others connects more m a b = rw (a, b) refl
+
+body_module : (ws : Line) (d : DesignOf) (names : List Word) (cells : List CellOf) (connects : Connects) (m total : ℕ) → IsModuleText ws d names → IsBody d names cells connects m total
+    → Next d.free (numbers_after (length d.cells) cells (d.connects ++ connects)) m
+    → IsModuleText (ws ++ words_in (lines_after d.wires (length d.cells) cells (d.connects ++ connects))) (filled d (d.cells ++ cells) (d.connects ++ connects) m) (names ++ cell_names cells)
+body_module ws d names [] connects m total p b next =
+    let n = length d.cells in
     let whole : here n connects ≡ connects = last_here n connects b.rising (all_turned (λ (j : ConnectOf). j.cells_before ≤ n + 0) (λ (j : ConnectOf). j.cells_before ≤ n) connects (λ j h. omega arith) b.last) in
-    let all : connects_after n (d.design.connects ++ connects) ≡ connects = after_is n d.design.connects connects b.done b.rising ∙ whole in
+    let all : connects_after n (d.connects ++ connects) ≡ connects = after_is n d.connects connects b.done b.rising ∙ whole in
     let at : AllByRecursion (λ j. j.cells_before ≡ n) connects = subst (λ (x : Connects). AllByRecursion (λ (j : ConnectOf). j.cells_before ≡ n) x) whole (here_at n connects) in
-    let numbers : Next d.design.free (flat_map connect_numbers connects) m = subst (λ (x : Connects). Next d.design.free (flat_map connect_numbers x) m) all next in
-    ap (λ (x : Connects). steps d Top (words_in (connect_lines d.design.wires x ++ rest))) all
-    ∙ connects_steps d connects m total rest l b.named b.connected b.bits at numbers b.room
-    ∙ ap (λ (x : DraftOf). steps x Top (words_in rest))
-    (made_same d d.design.cells (d.design.cells ++ []) (d.design.connects ++ connects) (d.design.connects ++ connects) m d.cells (d.cells ++ []) (sym (append-nil d.design.cells)) refl (sym (append-nil d.cells)))
-body_steps d (c ∷ cells) connects m total rest l b next =
-    let n = length d.design.cells in
-    let wires = d.design.wires in
+    let numbers : Next d.free (flat_map connect_numbers connects) m = subst (λ (x : Connects). Next d.free (flat_map connect_numbers x) m) all next in
+    module_same (ws ++ words_in (connect_lines d.wires connects)) (ws ++ words_in (lines_after d.wires n [] (d.connects ++ connects))) (filled d d.cells (d.connects ++ connects) m) (filled d (d.cells ++ []) (d.connects ++ connects) m) names (names ++ [])
+    (ap (λ (x : Connects). ws ++ words_in (connect_lines d.wires x)) (sym all)) (filled_same d d.cells (d.cells ++ []) (d.connects ++ connects) (d.connects ++ connects) m (sym (append-nil d.cells)) refl) (sym (append-nil names))
+    (connects_module ws d names connects m total p b.named b.connected b.bits at numbers b.room)
+body_module ws d names (c ∷ cells) connects m total p b next =
+    let n = length d.cells in
+    let wires = d.wires in
     let front = here n connects in
     let back = later n connects in
-    let all : Connects = d.design.connects ++ connects in
+    let all : Connects = d.connects ++ connects in
     let parts : front ++ back ≡ connects = here_later n connects in
-    let now : connects_after n all ≡ front = after_is n d.design.connects connects b.done b.rising in
+    let now : connects_after n all ≡ front = after_is n d.connects connects b.done b.rising in
     let behind = numbers_after (n + 1) cells all in
-    let split = next_split d.design.free m (flat_map connect_numbers front) (cell_numbers c ++ behind) (subst (λ (x : Connects). Next d.design.free (flat_map connect_numbers x ++ (cell_numbers c ++ behind)) m) now next) in
+    let split = next_split d.free m (flat_map connect_numbers front) (cell_numbers c ++ behind) (subst (λ (x : Connects). Next d.free (flat_map connect_numbers x ++ (cell_numbers c ++ behind)) m) now next) in
     let k = split.0 in
     let split_cell = next_split k m (cell_numbers c) behind split.2 in
     let q = split_cell.0 in
     let k_low : k ≤ m = next_rises k m _ split.2 in
     let q_low : q ≤ m = next_rises q m _ split_cell.2 in
-    let first = connects_added d front k in
-    let second = cell_added first c q in
-    let later_lines = lines_after wires (n + 1) cells all in
-    let more = later_lines ++ rest in
+    let first = filled d d.cells (d.connects ++ front) k in
+    let second = filled d (d.cells ++ c ∷ []) (d.connects ++ front) q in
     let connected = all_parts (IsConnectOf wires total) front back (subst (λ (x : Connects). AllByRecursion (IsConnectOf wires total) x) (sym parts) b.connected) in
     let has_bits = all_parts HasBits front back (subst (λ (x : Connects). AllByRecursion HasBits x) (sym parts) b.bits) in
     let lasts = all_parts (λ (j : ConnectOf). j.cells_before ≤ n + length (c ∷ cells)) front back (subst (λ (x : Connects). AllByRecursion (λ (j : ConnectOf). j.cells_before ≤ n + length (c ∷ cells)) x) (sym parts) b.last) in
-    let count : n + 1 ≡ length (d.design.cells ++ c ∷ []) = omega (arith, length-append d.design.cells (c ∷ [])) in
-    let regrouped : all ≡ (d.design.connects ++ front) ++ back = sym (append_assoc d.design.connects front back ∙ ap (λ (x : Connects). d.design.connects ++ x) parts) in
-    let names : (d.cells ++ c.name ∷ []) ++ cell_names cells ≡ d.cells ++ c.name ∷ cell_names cells = append_assoc d.cells (c.name ∷ []) (cell_names cells) in
-    let at_first : AllByRecursion (λ j. j.cells_before < n + 1) (d.design.connects ++ front) =
-    all_join (λ (j : ConnectOf). j.cells_before < n + 1) d.design.connects front
-    (all_turned (λ (j : ConnectOf). j.cells_before < n) (λ (j : ConnectOf). j.cells_before < n + 1) d.design.connects (λ j h. omega arith) b.done)
+    let count : n + 1 ≡ length (d.cells ++ c ∷ []) = omega (arith, length-append d.cells (c ∷ [])) in
+    let regrouped : all ≡ (d.connects ++ front) ++ back = sym (append_assoc d.connects front back ∙ ap (λ (x : Connects). d.connects ++ x) parts) in
+    let apart : (names ++ c.name ∷ []) ++ cell_names cells ≡ names ++ c.name ∷ cell_names cells = append_assoc names (c.name ∷ []) (cell_names cells) in
+    let at_first : AllByRecursion (λ j. j.cells_before < n + 1) (d.connects ++ front) =
+    all_join (λ (j : ConnectOf). j.cells_before < n + 1) d.connects front
+    (all_turned (λ (j : ConnectOf). j.cells_before < n) (λ (j : ConnectOf). j.cells_before < n + 1) d.connects (λ j h. omega arith) b.done)
     (all_turned (λ (j : ConnectOf). j.cells_before ≡ n) (λ (j : ConnectOf). j.cells_before < n + 1) front (λ j h. omega arith) (here_at n connects)) in
-    let body : IsBody second cells back m total = record {
+    let body : IsBody second (names ++ c.name ∷ []) cells back m total = record {
       named = b.named;
       room = b.room;
-      done = subst (λ (x : ℕ). AllByRecursion (λ (j : ConnectOf). j.cells_before < x) (d.design.connects ++ front)) count at_first;
+      done = subst (λ (x : ℕ). AllByRecursion (λ (j : ConnectOf). j.cells_before < x) (d.connects ++ front)) count at_first;
       rising = subst (λ (x : ℕ). Rising x back) count (rising_later n connects b.rising);
-      last = all_turned (λ (j : ConnectOf). j.cells_before ≤ n + length (c ∷ cells)) (λ (j : ConnectOf). j.cells_before ≤ length (d.design.cells ++ c ∷ []) + length cells) back (λ j h. omega (arith, count)) lasts.1;
+      last = all_turned (λ (j : ConnectOf). j.cells_before ≤ n + length (c ∷ cells)) (λ (j : ConnectOf). j.cells_before ≤ length (d.cells ++ c ∷ []) + length cells) back (λ j h. omega (arith, count)) lasts.1;
       connected = connected.1;
       bits = has_bits.1;
       cells_are = b.cells_are.1;
       printable = b.printable.1;
       short = b.short.1;
-      names = subst (λ (x : List Word). IsDistinct bytes_eq x) (sym names) b.names;
+      apart = subst (λ (x : List Word). IsDistinct bytes_eq x) (sym apart) b.apart;
     } in
-    let numbers : Next q (numbers_after (length (d.design.cells ++ c ∷ [])) cells ((d.design.connects ++ front) ++ back)) m =
-    subst (λ (x : Connects). Next q (numbers_after (length (d.design.cells ++ c ∷ [])) cells x) m) regrouped (subst (λ (x : ℕ). Next q (numbers_after x cells all) m) count split_cell.2) in
-    ap (λ (x : Connects). steps d Top (words_in ((connect_lines wires x ++ (cell_lines wires c ++ later_lines)) ++ rest))) now
-    ∙ ap (λ (x : List Line). steps d Top (words_in x)) (append_assoc (connect_lines wires front) (cell_lines wires c ++ later_lines) rest ∙ ap (λ (x : List Line). connect_lines wires front ++ x) (append_assoc (cell_lines wires c) later_lines rest))
-    ∙ connects_steps d front k total (cell_lines wires c ++ more) (key_left (codes "cell") _ cell_key) b.named connected.0 has_bits.0 (here_at n connects) split.1 (omega (arith, b.room))
-    ∙ cell_steps first c q total more b.named b.cells_are.0 b.printable.0 b.short.0 (fresh_name d.cells c.name (cell_names cells) b.names) split_cell.1 (omega (arith, b.room))
-    ∙ ap (λ (x : ℕ). steps second Top (words_in (lines_after wires x cells all ++ rest))) count
-    ∙ ap (λ (x : Connects). steps second Top (words_in (lines_after wires (length (d.design.cells ++ c ∷ [])) cells x ++ rest))) regrouped
-    ∙ body_steps second cells back m total rest l body numbers
-    ∙ ap (λ (x : DraftOf). steps x Top (words_in rest))
-    (made_same d ((d.design.cells ++ c ∷ []) ++ cells) (d.design.cells ++ c ∷ cells) ((d.design.connects ++ front) ++ back) all m ((d.cells ++ c.name ∷ []) ++ cell_names cells) (d.cells ++ cell_names (c ∷ cells))
-    (append_assoc d.design.cells (c ∷ []) cells) (sym regrouped) names)
+    let numbers : Next q (numbers_after (length (d.cells ++ c ∷ [])) cells ((d.connects ++ front) ++ back)) m =
+    subst (λ (x : Connects). Next q (numbers_after (length (d.cells ++ c ∷ [])) cells x) m) regrouped (subst (λ (x : ℕ). Next q (numbers_after x cells all) m) count split_cell.2) in
+    let us = words_in (connect_lines wires front) in
+    let vs = words_in (cell_lines wires c) in
+    let lines = lines_after wires (n + 1) cells all in
+    let xs = words_in (lines_after wires (length (d.cells ++ c ∷ [])) cells ((d.connects ++ front) ++ back)) in
+    let to_cell = connects_module ws d names front k total p b.named connected.0 has_bits.0 (here_at n connects) split.1 (omega (arith, b.room)) in
+    let past_cell = cell_module (ws ++ us) first names c q total to_cell b.named b.cells_are.0 b.printable.0 b.short.0 (fresh_name names c.name (cell_names cells) b.apart) split_cell.1 (omega (arith, b.room)) in
+    let ended : words_in lines ≡ xs = ap (λ (x : ℕ). words_in (lines_after wires x cells all)) count ∙ ap (λ (x : Connects). words_in (lines_after wires (length (d.cells ++ c ∷ [])) cells x)) regrouped in
+    let words : ((ws ++ us) ++ vs) ++ xs ≡ ws ++ words_in (connect_lines wires (connects_after n all) ++ (cell_lines wires c ++ lines)) =
+    append_assoc (ws ++ us) vs xs
+    ∙ append_assoc ws us (vs ++ xs)
+    ∙ ap (λ (x : List Word). ws ++ (us ++ (vs ++ x))) (sym ended)
+    ∙ ap (λ (x : List Word). ws ++ (us ++ x)) (sym (flat_map-append (λ (l : Line). l) (cell_lines wires c) lines))
+    ∙ ap (λ (x : List Word). ws ++ x) (sym (flat_map-append (λ (l : Line). l) (connect_lines wires front) (cell_lines wires c ++ lines)))
+    ∙ ap (λ (x : Connects). ws ++ words_in (connect_lines wires x ++ (cell_lines wires c ++ lines))) (sym now) in
+    module_same (((ws ++ us) ++ vs) ++ xs) (ws ++ words_in (lines_after wires n (c ∷ cells) all)) (filled second ((d.cells ++ c ∷ []) ++ cells) ((d.connects ++ front) ++ back) m) (filled d (d.cells ++ c ∷ cells) all m)
+    ((names ++ c.name ∷ []) ++ cell_names cells) (names ++ cell_names (c ∷ cells)) words
+    (filled_same d ((d.cells ++ c ∷ []) ++ cells) (d.cells ++ c ∷ cells) ((d.connects ++ front) ++ back) all m (append_assoc d.cells (c ∷ []) cells) (sym regrouped)) apart
+    (body_module ((ws ++ us) ++ vs) second (names ++ c.name ∷ []) cells back m total past_cell body numbers)
 
 -- ---- the module
-
-pub at_place : {X : Type 0} (P : X → Type 0) (xs : List X) (i : ℕ) (x : X) → All P xs → slice_get xs i ≡ Some x → P x
-at_place P xs i x all h = subst P (get_or_from_slice_get xs i x x h) (all i x (slice_get_within xs i x h))
-
-width_below : (ws : List WireOf) (i : ℕ) (x : WireOf) → slice_get ws i ≡ Some x → x.width ≤ sum_by (λ w. w.width) ws
-width_below [] i x h = absurd cc
-width_below (w ∷ ws) zero x h = let same : w ≡ x = cc in omega (arith, ap (λ (y : WireOf). y.width) same, sum_by-cons (λ (y : WireOf). y.width) w ws)
-width_below (w ∷ ws) (suc i) x h = omega (arith, width_below ws i x h, sum_by-cons (λ (y : WireOf). y.width) w ws)
-
-pub are_named : (wires : List WireOf) → All (λ w. IsIdentifier w.name) wires → IsDistinct bytes_eq (wire_names wires) → sum_by (λ w. w.width) wires ≤ most_bits → AreNamed wires
-are_named wires names distinct few = record {
-  names = λ w x at. at_place (λ (y : WireOf). IsIdentifier y.name) wires w x names at;
-  distinct = distinct;
-  widths = λ w x at. omega (arith, few, width_below wires w x at);
-}
 
 pub named_wires : (d : DesignOf) → IsPrintable d → AreNamed d.wires
 named_wires d p = are_named d.wires p.wires p.one_wire (omega (arith, p.few_bits))
@@ -261,31 +234,16 @@ in_order : (cells : ℕ) (js : Connects) → IsFileOrder cells js → Rising 0 j
 unfolding Falling
 in_order cells js h = rising_from 0 js (λ k j at. omega arith) h.1
 
-module_begins : (d : DraftOf) → step d (File false) (codes "module") ≡ goes_on d Module
-unfolding word_step
-module_begins d = refl
-
-module_named : (d : DraftOf) (name : Word) → IsIdentifier name → step d Module name ≡ goes_on (new_draft name) Top
-unfolding name_step
-module_named d name i = step_named d Module name i
-
-module_ends : (d : DraftOf) → step d Top (codes "end") ≡ goes_on d (File true)
-unfolding word_step line
-module_ends d = refl
-
-end_key : IsKey (codes "end")
-end_key = record { name = refl; slice = refl }
-
--- the words of a design are read as the design
-pub design_steps : (d : DesignOf) → IsPrintable d → AllByRecursion HasShort d.cells → steps (new_draft []) (File false) (design_words d) ≡ goes_on (record { design = d; cells = map (λ c. c.name) d.cells }) (File true)
-design_steps d p few =
-    let start = new_draft d.name in
-    let wired = wires_added start d.wires in
-    let ending : List Line = (codes "end" ∷ []) ∷ [] in
+pub printed_file : (d : DesignOf) → IsPrintable d → AllByRecursion HasShort d.cells → IsFileText (design_words d) d
+printed_file d p few =
+    let start = (new_draft d.name).design in
+    let wired : DesignOf = record start { wires = d.wires } in
+    let head : Line = codes "module" ∷ d.name ∷ [] in
+    let us = words_in (flat_map wire_lines d.wires) in
     let items = lines_after d.wires 0 d.cells d.connects in
-    let ended = filled wired d.cells d.connects d.free in
+    let ending : List Line = (codes "end" ∷ []) ∷ [] in
     let numbers : Next 0 (numbers_after 0 d.cells d.connects) d.free = subst (λ (x : List ℕ). Next 0 x d.free) (sym p.numbers) (next_range 0 d.free d.free (omega arith)) in
-    let body : IsBody wired d.cells d.connects d.free d.free = record {
+    let body : IsBody wired [] d.cells d.connects d.free d.free = record {
       named = named_wires d p;
       room = p.few_bits;
       done = tt;
@@ -296,10 +254,18 @@ design_steps d p few =
       cells_are = recursion_from_All (IsCellOf d.wires d.free) d.cells p.design.cells;
       printable = recursion_from_All IsPrintableCell d.cells p.cells;
       short = few;
-      names = p.one_cell;
+      apart = p.one_cell;
     } in
-    one (new_draft []) (new_draft []) (File false) Module (codes "module") (d.name ∷ words_in (flat_map wire_lines d.wires ++ (items ++ ending))) (module_begins (new_draft []))
-    ∙ one (new_draft []) start Module Top d.name (words_in (flat_map wire_lines d.wires ++ (items ++ ending))) (module_named (new_draft []) d.name p.name)
-    ∙ wires_steps start d.wires (items ++ ending) (wires_fine d.wires p.design.wires p.wires) p.one_wire (omega (arith, p.few_bits))
-    ∙ body_steps wired d.cells d.connects d.free d.free ending (key_left (codes "end") [] end_key) body numbers
-    ∙ one ended ended Top (File true) (codes "end") [] (module_ends ended)
+    let regrouped : words_in (flat_map wire_lines d.wires ++ (items ++ ending)) ≡ us ++ (words_in items ++ codes "end" ∷ []) =
+    flat_map-append (λ (l : Line). l) (flat_map wire_lines d.wires) (items ++ ending) ∙ ap (λ (x : List Word). us ++ x) (flat_map-append (λ (l : Line). l) items ending) in
+    let with_wires = wires_module head start [] d.wires (name_line d.name p.name) (wires_fine d.wires p.design.wires p.wires) p.one_wire (omega (arith, p.few_bits)) in
+    record {
+      before = [];
+      lines = (head ++ us) ++ words_in items;
+      after = [];
+      cells = cell_names d.cells;
+      are = ap (λ (x : List Word). codes "module" ∷ d.name ∷ x) (regrouped ∙ sym (append_assoc us (words_in items) (codes "end" ∷ [])));
+      is_before = no_line;
+      is_module = body_module (head ++ us) wired [] d.cells d.connects d.free d.free with_wires body numbers;
+      is_after = no_line;
+    }

@@ -1,29 +1,29 @@
 -- The printed form of a design has the design's words as its tokens.
-use Rattle.std.proofs.Common.{◌≡◌, ℕ, ◌+◌, ◌-◌, ◌<◌, ◌≤◌, ◌^◌, Bool, true, false, List, [], ◌∷◌, ◌++◌, map, length, Option, refl, sym, ap, ◌∙◌, subst, append_assoc, arith}
+use Rattle.std.proofs.Common.{◌≡◌, ℕ, ◌+◌, ◌-◌, ◌<◌, ◌≤◌, ◌^◌, Bool, true, false, List, [], ◌∷◌, ◌++◌, map, length, Option, Some, None, refl, sym, ap, subst, append_assoc, arith}
 use Rattle.std.specs.Prelude.{codes, decimal, cond, ◌==◌, filter, flat_map, reverse, All}
-use Rattle.std.specs.List.{AllByRecursion, join_with_byte, sum_by}
+use Rattle.std.specs.List.{AllByRecursion, list_all, join_with_byte, sum_by}
 use Rattle.std.proofs.lemmas.List.{length-append, length-map, length-reverse}
 use Rattle.std.proofs.lemmas.List.Elements.{All-head, All-tail, recursion_from_All}
 use Rattle.std.proofs.lemmas.List.Sums.{sum_by-cons}
 use Rattle.rtlil_lex.specs.Tokens.{is_space, TokenOf, IsTokens, Lexes, Gap}
 use Rattle.rtlil_lex.specs.Tokens.Gap.{no_more, space, comment}
 use Rattle.rtlil_lex.specs.Tokens.Lexes.{last_gap, token}
-use Rattle.rtlil_constant.specs.Constants.{Word}
+use Rattle.rtlil_constant.specs.Constants.{Word, is_digit}
 use Rattle.design_core.specs.Names.{parameter_text, port_text}
 use Rattle.design_core.specs.Shape.{WireOf, CellOf, ConnectOf, DesignOf, IsDeclared, IsWire, IsCellOf, IsConnectOf}
 use Rattle.design_core.specs.declared.parts.Parameter.{Parameter}
 use Rattle.design_core.specs.declared.parts.Port.{Port}
 use Rattle.design_signals.specs.declared.sig_bit.SigBit.{SigBit}
 use Rattle.design_signals.specs.declared.sig_bit.SigBit.TheVariants.{Wire, Const, Free}
-use Rattle.design_reader.specs.Grammar.{most_bits, new_draft, steps, words_of, Reads}
+use Rattle.design_reader.specs.Grammar.{most_bits, words_of, Reads}
+use Rattle.reader_law.specs.FileTexts.{IsFileText}
 use Rattle.reader_law.specs.Printed.{Line, constant_word, name_in, bit_words, signal_words, start_character, init_line, input_words, wire_line, wire_lines, kind_text, digit_character, parameter_line, port_line, identifier, foreign_line, cell_lines, connect_line, connects_after, items_after, design_lines, design_words, printed, IsIdentifier, IsForeign, IsPrintableCell, IsPrintable}
-use Rattle.design_reader.specs.declared.spot.Spot.TheVariants.{File}
 use Rattle.design_reader.proofs.Declared.{reverse_all}
 use Rattle.reader_law.proofs.PrintedWords.{IsShown, shown_constant, shown_decimal, shown_index, shown_name, shown_word}
-use Rattle.reader_law.proofs.PrintedSignals.{AreNamed}
-use Rattle.reader_law.proofs.PrintedCells.{HasShort, IsShort, digits_fine, identifier_by, kind_identifier, parameter_identifier, port_identifier, words_in}
-use Rattle.reader_law.proofs.PrintedWires.{start_fine}
-use Rattle.reader_law.proofs.PrintedDesigns.{all_join, all_parts, design_steps, named_wires}
+use Rattle.reader_law.proofs.Steps.{AreNamed, all_join, all_parts}
+use Rattle.reader_law.proofs.FileSteps.{file_read}
+use Rattle.reader_law.proofs.CellWords.{HasShort, IsShort, digits_fine, identifier_by, kind_identifier, parameter_identifier, port_identifier, words_in}
+use Rattle.reader_law.proofs.PrintedDesigns.{named_wires, printed_file}
 
 -- a gap before the text of tokens
 gap_then : (b c a : List ℕ) → Gap b a → Gap c b → Gap c a
@@ -36,14 +36,14 @@ gap_lexes n a b ts g (last_gap all h) = last_gap a (gap_then b [] a g h)
 gap_lexes n a b ts g (token t others all rest h p e l) = token t others a rest (gap_then b (t.text ++ rest) a g h) p e l
 
 -- a line with a word
-pub IsShownLine : Line → Type 0
+IsShownLine : Line → Type 0
 IsShownLine [] = ⊥
 IsShownLine (w ∷ ws) = IsShown w × AllByRecursion IsShown ws
 
 abbrev line_text : Line → List ℕ
 line_text l = join_with_byte 32 l
 
-abbrev pub lines_text : List Line → List ℕ
+abbrev lines_text : List Line → List ℕ
 lines_text lines = flat_map (λ l. line_text l ++ 10 ∷ []) lines
 
 -- bytes at the end of a text whose tokens are these words
@@ -74,7 +74,7 @@ line_lexed n w (v ∷ ws) rest more s t few l =
     let inner = line_lexed n v ws rest more t.0 t.1 (omega (arith, few, same, long)) l in
     subst (λ (x : List ℕ). Lexed n x (w ∷ v ∷ ws ++ more)) (sym apart) (word_lexed n 32 w tail ((v ∷ ws) ++ more) s refl (omega (arith, few, same)) inner)
 
-pub lines_lexed : (n : ℕ) (lines : List Line) → AllByRecursion IsShownLine lines → length (lines_text lines) ≤ n → Lexed n (lines_text lines) (words_in lines)
+lines_lexed : (n : ℕ) (lines : List Line) → AllByRecursion IsShownLine lines → length (lines_text lines) ≤ n → Lexed n (lines_text lines) (words_in lines)
 unfolding IsShownLine
 lines_lexed n [] s few = record { tokens = []; words = refl; lexes = last_gap [] no_more }
 lines_lexed n ([] ∷ lines) s few = absurd s.0
@@ -104,9 +104,11 @@ all_filter P t (x ∷ xs) h =
       | false ↦ all_filter P t xs h.1
     ]
 
-all_both : {X : Type 0} (P Q : X → Type 0) (xs : List X) → AllByRecursion P xs → AllByRecursion Q xs → AllByRecursion (λ x. P x × Q x) xs
-all_both P Q [] h k = tt
-all_both P Q (x ∷ xs) h k = ((h.0, k.0), all_both P Q xs h.1 k.1)
+start_fine : (row : List (Option Bool)) → list_all is_digit (map start_character row) ≡ true
+start_fine [] = refl
+start_fine (None ∷ row) = start_fine row
+start_fine (Some true ∷ row) = start_fine row
+start_fine (Some false ∷ row) = start_fine row
 
 init_shown : (start : List (Option Bool)) → length start ≤ most_bits → IsShownLine (init_line start)
 unfolding IsShownLine
@@ -276,7 +278,10 @@ pub words_read : (d : DesignOf) (text : List ℕ) (ts : List TokenOf) → IsPrin
 words_read d text ts p few lexes same =
     let fit : AllByRecursion (Fits (2 ^ 26)) (words_of ts) = more_fit (length text) (2 ^ 26) (words_of ts) few (tokens_fit (length text) text ts lexes) in
     let short = design_short d (by_lines (2 ^ 26) (design_lines d) (subst (λ (x : List Word). AllByRecursion (Fits (2 ^ 26)) x) same fit)) in
-    record { limit = few; tokens = ts; lexes = lexes; cells = map (λ c. c.name) d.cells; whole = ap (λ (x : List Word). steps (new_draft []) (File false) x) same ∙ design_steps d p short }
+    file_read text ts (design_words d) d (printed_file d p short) few lexes same
+
+pub printed_text : (d : DesignOf) → IsPrintable d → length (printed d) ≤ 2 ^ 26 → IsFileText (design_words d) d
+printed_text d p few = printed_file d p (design_short d (lines_fit (2 ^ 26) (design_lines d) few))
 
 pub printed_read : (d : DesignOf) → IsPrintable d → length (printed d) ≤ 2 ^ 26 → Reads (printed d) d
 printed_read d p few =

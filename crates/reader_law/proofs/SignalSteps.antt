@@ -1,29 +1,29 @@
 -- Each text of a signal is read as that signal.
-use Rattle.std.proofs.Common.{◌≡◌, ℕ, zero, suc, ◌+◌, ◌-◌, ◌<◌, ◌≤◌, ◌^◌, Bool, true, false, List, [], ◌∷◌, ◌++◌, map, length, take, drop, get_or, Some, None, refl, sym, ap, ◌∙◌, subst, append_assoc, arith}
-use Rattle.std.specs.Prelude.{codes, decimal, ◌==◌, nat_le, nat_lt, reverse, flat_map, slice_get, All}
-use Rattle.std.specs.List.{AllByRecursion, list_all, list_any, range_with_len}
-use Rattle.std.proofs.Math.Seq.{take-append_seam}
-use Rattle.std.proofs.lemmas.Bool.{ne_eqb}
+use Rattle.std.proofs.Common.{◌≡◌, ℕ, zero, suc, ◌+◌, ◌-◌, ◌<◌, ◌≤◌, Bool, true, false, List, [], ◌∷◌, ◌++◌, map, length, take, drop, get_or, Some, None, Err, cond, refl, sym, ap, ◌∙◌, subst, append_assoc, arith}
+use Rattle.std.specs.Prelude.{codes, nat_le, nat_lt, reverse, flat_map, slice_get}
+use Rattle.std.specs.List.{AllByRecursion, AllZip, list_any, range_with_len}
 use Rattle.std.proofs.lemmas.Bool.Decides.{nat_tests}
-use Rattle.std.proofs.lemmas.List.{length-append, length-map, length-reverse, map-append, reverse-append, reverse-reverse}
-use Rattle.std.proofs.lemmas.Grind.{flat_map-append}
-use Rattle.std.proofs.lemmas.List.Elements.{All-drop, All-take, recursion_from_All}
+use Rattle.std.proofs.lemmas.List.{length-append, length-reverse, map-append, reverse-append, reverse-reverse}
 use Rattle.design_signals.proofs.RowLemmas.{slice_turned}
 use Rattle.design_signals.specs.Parts.{wire_row, slice_row}
-use Rattle.design_signals.specs.declared.sig_bit.SigBit.TheVariants.{Wire, Const, Free}
-use Rattle.rtlil_constant.specs.Constants.{Word, cut, front, is_digit, is_marker, number_of, open_digits, slice_of}
+use Rattle.design_signals.specs.declared.sig_bit.SigBit.{SigBit}
+use Rattle.design_signals.specs.declared.sig_bit.SigBit.TheVariants.{Wire, Free}
+use Rattle.rtlil_constant.specs.Constants.{Word, is_marker, is_open, number_of, open_digits, slice_of}
 use Rattle.design_core.specs.Shape.{WireOf, wire_bits}
 use Rattle.design_reader.specs.Parts.{DraftOf}
-use Rattle.design_reader.specs.Grammar.{goes_on, most_bits, constant_part, numbered_bits, part_word, signal_word, slice_fault, step, steps, word_step}
-use Rattle.reader_law.specs.Printed.{Line, constant_word, index_word, bit_number}
-use Rattle.reader_law.specs.SignalTexts.{IsSignalText, IsBound, IsDigitBit, bit_character, range_word}
+use Rattle.design_reader.specs.Grammar.{goes_on, most_bits, is_ignored_target, with_free, constant_part, numbered_bits, plain_bit, part_word, signal_word, slice_fault, step, steps, word_step}
+use Rattle.reader_law.specs.Printed.{Line, bit_number, signal_numbers}
+use Rattle.reader_law.specs.ConstantTexts.{State, state_digits, IsConstantText}
+use Rattle.reader_law.specs.ConstantTexts.State.{Zero, One, Undefined, HighImpedance, DontCare, Marked}
+use Rattle.reader_law.specs.SignalTexts.{IsSignalText, IsBitOf}
 use Rattle.reader_law.specs.SignalTexts.IsSignalText.{wire, constant, bit, range, braces, last, above}
+use Rattle.design_reader.specs.declared.fault.ReadFaultKind.TheVariants.{Limit}
 use Rattle.design_reader.specs.declared.spot.Target.{Target}
 use Rattle.design_reader.specs.declared.spot.Target.TheVariants.{Left, Right}
 use Rattle.design_reader.specs.declared.spot.Spot.TheVariants.{Signal, Part}
-use Rattle.design_reader.proofs.Declared.{reverse_all}
-use Rattle.reader_law.proofs.PrintedWords.{IsFigure, constant_read, decimal_word, index_read, last_at, plain_constant}
-use Rattle.reader_law.proofs.PrintedSignals.{Bits, AreNamed, IsHere, Next, constant_step, free_at, joined_constant, joined_name, named_step, next_rises, next_split, one, right_constant, right_name, right_opened, same_step}
+use Rattle.reader_law.proofs.PrintedWords.{IsFigure, colon_apart, cut_at_mark, front_push, index_of, last_at}
+use Rattle.reader_law.proofs.ConstantSteps.{constant_plain, number_figures, number_read, states_read}
+use Rattle.reader_law.proofs.Steps.{Bits, AreNamed, IsHere, Next, constant_step, free_at, joined_constant, joined_name, named_step, next_rises, next_split, one, right_constant, right_name, right_opened, same_step}
 
 -- ---- a wire's bits
 
@@ -46,41 +46,76 @@ wire_falls w (suc n) =
 
 -- ---- a constant's bits
 
-characters_fine : (row : Bits) → AllByRecursion IsDigitBit row → (list_all is_digit (map bit_character row) ≡ true) × (list_any is_marker (map bit_character row) ≡ false)
-characters_fine [] h = (refl, refl)
-characters_fine (Wire w b ∷ row) h = absurd h.0
-characters_fine (Const true ∷ row) h = characters_fine row h.1
-characters_fine (Const false ∷ row) h = characters_fine row h.1
-characters_fine (Free n ∷ row) h = characters_fine row h.1
+-- the next free bit is that of an open state
+open_next : (n m k : ℕ) (b : SigBit) (row : Bits) → b ≡ Free k → Next n (flat_map bit_number (b ∷ row)) m → (b ≡ Free n) × Next (n + 1) (flat_map bit_number row) m
+open_next n m k b row e h =
+    let at = subst (λ (x : SigBit). Next n (bit_number x ++ flat_map bit_number row) m) e h in
+    (e ∙ ap (λ (x : ℕ). Free x) at.0, at.1)
 
-numbered_back : (n m : ℕ) (row : Bits) → AllByRecursion IsDigitBit row → Next n (flat_map bit_number row) m → (numbered_bits n (map bit_character row) ≡ row) × (n + open_digits (map bit_character row) ≡ m)
-numbered_back n m [] a h = (refl, omega arith)
-numbered_back n m (Wire w b ∷ row) a h = absurd a.0
-numbered_back n m (Const true ∷ row) a h = let r = numbered_back n m row a.1 h in (ap (λ (x : Bits). Const true ∷ x) r.0, r.1)
-numbered_back n m (Const false ∷ row) a h = let r = numbered_back n m row a.1 h in (ap (λ (x : Bits). Const false ∷ x) r.0, r.1)
-numbered_back n m (Free k ∷ row) a h =
-    let r = numbered_back (n + 1) m row a.1 h.1 in
-    (rw h.0 (ap (λ (x : Bits). Free n ∷ x) r.0), omega (arith, r.1))
+-- digits are read as these bits, which are numbered up to m, and none of them is an m
+record AreBits (n m : ℕ) (digits : List ℕ) (row : Bits) : Type 0 where
+  bits : numbered_bits n digits ≡ row
+  count : n + open_digits digits ≡ m
+  unmarked : list_any is_marker digits ≡ false
 
-part_is : (d : DraftOf) (t : Target) (rows : List Bits) (row : Bits) (m : ℕ) → 0 < length row → AllByRecursion IsDigitBit row → IsHere d t m → Next d.design.free (flat_map bit_number row) m
-    → constant_part d t rows (map bit_character row) ≡ goes_on (free_at d m) (Part t (row ∷ rows))
-part_is d t rows [] m some a here next = absurd (omega arith)
-part_is d t rows (b ∷ row) m some a here next =
-    let f = characters_fine (b ∷ row) a in
-    let no_marker = f.1 in
-    let kept = here.kept in
-    let r = numbered_back d.design.free m (b ∷ row) a next in
-    let back = r.0 in
-    let count = r.1 in
+bound_bit : (n m c : ℕ) (digits : List ℕ) (b : SigBit) (row : Bits) → is_open c ≡ false → is_marker c ≡ false → b ≡ plain_bit c → AreBits n m digits row → AreBits n m (c ∷ digits) (b ∷ row)
+bound_bit n m c digits b row o k e r =
+    let bits = r.bits in
+    record { bits = rw (o, bits) (ap (λ (x : SigBit). x ∷ row) (sym e)); count = rw o r.count; unmarked = rw k r.unmarked }
+
+open_bit : (n m c : ℕ) (digits : List ℕ) (b : SigBit) (row : Bits) → is_open c ≡ true → is_marker c ≡ false → b ≡ Free n → AreBits (n + 1) m digits row → AreBits n m (c ∷ digits) (b ∷ row)
+open_bit n m c digits b row o k e r =
+    let bits = r.bits in
+    let count = r.count in
+    record { bits = rw (o, bits) (ap (λ (x : SigBit). x ∷ row) (sym e)); count = rw o (omega arith); unmarked = rw k r.unmarked }
+
+states_bits : (n m : ℕ) (states : List State) (row : Bits) → AllZip IsBitOf states row → Next n (flat_map bit_number row) m → AreBits n m (state_digits states) row
+states_bits n m [] [] z h = record { bits = refl; count = omega arith; unmarked = refl }
+states_bits n m [] (b ∷ row) z h = absurd z
+states_bits n m (s ∷ states) [] z h = absurd z
+states_bits n m (Zero ∷ states) (b ∷ row) z h =
+    bound_bit n m 48 (state_digits states) b row refl refl z.0 (states_bits n m states row z.1 (subst (λ (x : SigBit). Next n (bit_number x ++ flat_map bit_number row) m) z.0 h))
+states_bits n m (One ∷ states) (b ∷ row) z h =
+    bound_bit n m 49 (state_digits states) b row refl refl z.0 (states_bits n m states row z.1 (subst (λ (x : SigBit). Next n (bit_number x ++ flat_map bit_number row) m) z.0 h))
+states_bits n m (Undefined ∷ states) (b ∷ row) z h =
+    let o = open_next n m z.0.0 b row z.0.1 h in open_bit n m 120 (state_digits states) b row refl refl o.0 (states_bits (n + 1) m states row z.1 o.1)
+states_bits n m (HighImpedance ∷ states) (b ∷ row) z h =
+    let o = open_next n m z.0.0 b row z.0.1 h in open_bit n m 122 (state_digits states) b row refl refl o.0 (states_bits (n + 1) m states row z.1 o.1)
+states_bits n m (DontCare ∷ states) (b ∷ row) z h =
+    let o = open_next n m z.0.0 b row z.0.1 h in open_bit n m 45 (state_digits states) b row refl refl o.0 (states_bits (n + 1) m states row z.1 o.1)
+states_bits n m (Marked ∷ states) (b ∷ row) z h = absurd z.0
+
+none_open : (n : ℕ) (digits : List ℕ) → open_digits digits ≡ 0 → map plain_bit digits ≡ numbered_bits n digits
+none_open n [] h = refl
+none_open n (c ∷ digits) h =
+    elim (is_open c) as (λ (v : Bool). cond v (1 + open_digits digits) (open_digits digits) ≡ 0 → plain_bit c ∷ map plain_bit digits ≡ cond v (Free n ∷ numbered_bits (n + 1) digits) (plain_bit c ∷ numbered_bits n digits)) [
+      | true ↦ λ e. absurd (omega arith)
+      | false ↦ λ e. ap (λ (x : Bits). plain_bit c ∷ x) (none_open n digits e)
+    ] h
+
+part_is : (d : DraftOf) (t : Target) (rows : List Bits) (states : List State) (row : Bits) (m : ℕ) → 0 < length row → AllZip IsBitOf states row → IsHere d t m → Next d.design.free (flat_map bit_number row) m
+    → constant_part d t rows (state_digits states) ≡ goes_on (free_at d m) (Part t (row ∷ rows))
+part_is d t rows [] [] m some z here next = absurd (omega arith)
+part_is d t rows [] (b ∷ row) m some z here next = absurd z
+part_is d t rows (s ∷ states) row m some z here next =
+    let digits = state_digits (s ∷ states) in
+    let r = states_bits d.design.free m (s ∷ states) row z next in
+    let no_marker = r.unmarked in
+    let back = r.bits in
+    let count = r.count in
     let room = here.room in
-    let fits : nat_le (wire_bits d.design + d.design.free + open_digits (map bit_character (b ∷ row))) most_bits ≡ true = grind (arith, nat_tests) in
-    rw (no_marker, kept, fits, back, count) refl
+    let fits : nat_le (wire_bits d.design + d.design.free + open_digits digits) most_bits ≡ true = grind (arith, nat_tests) in
+    rw no_marker
+    (elim (is_ignored_target t) as (λ (v : Bool). is_ignored_target t ≡ v
+    → cond v (goes_on d (Part t (map plain_bit digits ∷ rows))) (cond (nat_le (wire_bits d.design + d.design.free + open_digits digits) most_bits) (goes_on (with_free d (open_digits digits)) (Part t (numbered_bits d.design.free digits ∷ rows))) (Err Limit))
+    ≡ goes_on (free_at d m) (Part t (row ∷ rows))) [
+      | true ↦ λ k.
+          let same = none_open d.design.free digits (omega (arith, count, here.kept k)) ∙ back in
+          ap (λ (x : Bits). goes_on d (Part t (x ∷ rows))) same ∙ ap (λ (n : ℕ). goes_on (free_at d n) (Part t (row ∷ rows))) (here.kept k)
+      | false ↦ λ k. rw (fits, back, count) refl
+    ] refl)
 
 -- ---- slices
-
-cut_two : (w rest : Word) → AllByRecursion IsFigure w → cut 58 (w ++ 58 ∷ rest) ≡ Some (w, rest)
-cut_two [] rest f = refl
-cut_two (c ∷ w) rest f = let e : (c == 58) ≡ false = ne_eqb c 58 (λ h. omega (arith, f.0)) in rw (e, cut_two w rest f.1) refl
 
 range_of : (n m : ℕ) (w v : Word) → AllByRecursion IsFigure w → number_of w ≡ Some n → number_of v ≡ Some m → slice_of (91 ∷ ((w ++ 58 ∷ v) ++ 93 ∷ [])) ≡ Some (n, m)
 range_of n m w v f e g =
@@ -88,16 +123,8 @@ range_of n m w v f e g =
     let long : length (inner ++ 93 ∷ []) - 1 ≡ length inner = omega (arith, length-append inner (93 ∷ [])) in
     let some : nat_le 1 (length (inner ++ 93 ∷ [])) ≡ true = let l = length-append inner (93 ∷ []) in grind (arith, nat_tests) in
     let end : get_or (inner ++ 93 ∷ []) (length (inner ++ 93 ∷ []) - 1) 0 ≡ 93 = rw long (last_at inner 93) in
-    let inside : front (inner ++ 93 ∷ []) ≡ inner = rw long (take-append_seam inner (93 ∷ [])) in
-    rw (some, end, inside, cut_two w v f, e, g) refl
-
-range_read : (n m : ℕ) → n ≤ 2 ^ 26 → m ≤ n → slice_of (range_word n m) ≡ Some (n, m)
-range_read n m h k =
-    let d = decimal_word n (omega arith) in
-    let e = decimal_word m (omega arith) in
-    let grouped : decimal n ++ 58 ∷ (decimal m ++ 93 ∷ []) ≡ (decimal n ++ 58 ∷ decimal m) ++ 93 ∷ [] = sym (append_assoc (decimal n) (58 ∷ decimal m) (93 ∷ [])) in
-    ap (λ (x : Word). slice_of (91 ∷ x)) grouped
-    ∙ rw (d.are, e.are) (range_of n m (d.head ∷ d.tail) (e.head ∷ e.tail) d.figures d.number e.number)
+    let inside = front_push inner 93 in
+    rw (some, end, inside, cut_at_mark 58 w v colon_apart f, e, g) refl
 
 within : (n m long : ℕ) → m ≤ n → n < long → slice_fault long n m ≡ None
 within n m long h k =
@@ -141,42 +168,29 @@ opened_joins : (d : DraftOf) (t : Target) (row front : Bits) (rows : List Bits) 
 unfolding word_step part_word
 opened_joins d t row front rows = refl
 
-short_constant : (signal : Bits) → length signal ≤ 2 ^ 26 → length (map bit_character (reverse signal)) < 2 ^ 64
-short_constant signal few = omega (arith, few, length-map (reverse signal) bit_character, length-reverse signal)
-
-first_of : (wires : List WireOf) (parts : Bool) (ws : Line) (signal : Bits) → AreNamed wires → IsSignalText wires parts ws signal → IsFirst ws
-first_of wires parts ws signal n (wire w x at) = record { word = x.name; more = []; are = refl; joins = λ d t row front rows. joined_name d t row front rows x.name (n.names w x at); right = λ d row. right_name d row x.name (n.names w x at) }
-first_of wires parts ws signal n (constant s some few a) =
-    let digits = map bit_character (reverse s) in
-    let plain = plain_constant digits (short_constant s few) in
-    record {
-      word = constant_word digits;
-      more = [];
-      are = refl;
-      joins = λ d t row front rows. joined_constant d t row front rows (constant_word digits) plain;
-      right = λ d row. right_constant d row (constant_word digits) plain;
-    }
-first_of wires parts ws signal n (bit vs s i lt few a p) = first_then vs _ (first_of wires false vs s n p)
-first_of wires parts ws signal n (range vs s i j le lt few a p) = first_then vs _ (first_of wires false vs s n p)
-first_of wires parts ws signal n (braces vs s p) = record { word = codes "{"; more = vs ++ codes "}" ∷ []; are = refl; joins = opened_joins; right = right_opened }
-first_of wires parts ws signal n (last vs s p) = first_of wires false vs s n p
-first_of wires parts ws signal n (above us vs high low p q) = first_then us vs (first_of wires false us high n p)
+first_of : (wires : List WireOf) (parts : Bool) (ws : Line) (signal : Bits) (numbers : List ℕ) → AreNamed wires → IsSignalText wires parts ws signal numbers → IsFirst ws
+first_of wires parts ws signal numbers n (wire w x at) = record { word = x.name; more = []; are = refl; joins = λ d t row front rows. joined_name d t row front rows x.name (n.names w x at); right = λ d row. right_name d row x.name (n.names w x at) }
+first_of wires parts ws signal numbers n (constant w states s some c z) =
+    let plain = constant_plain w states c in
+    record { word = w; more = []; are = refl; joins = λ d t row front rows. joined_constant d t row front rows w plain; right = λ d row. right_constant d row w plain }
+first_of wires parts ws signal numbers n (bit vs s ns w i t lt p) = first_then vs _ (first_of wires false vs s ns n p)
+first_of wires parts ws signal numbers n (range vs s ns w v i j t u le lt p) = first_then vs _ (first_of wires false vs s ns n p)
+first_of wires parts ws signal numbers n (braces vs s ns p) = record { word = codes "{"; more = vs ++ codes "}" ∷ []; are = refl; joins = opened_joins; right = right_opened }
+first_of wires parts ws signal numbers n (last vs s ns p) = first_of wires false vs s ns n p
+first_of wires parts ws signal numbers n (above us vs high low ns ms p q) = first_then us vs (first_of wires false us high ns n p)
 
 -- ---- all words
 
-abbrev over : List WireOf → DraftOf → DraftOf
+abbrev pub over : List WireOf → DraftOf → DraftOf
 over wires d = record d { design = record d.design { wires = wires } }
 
-abbrev numbers_of : Bits → List ℕ
-numbers_of signal = flat_map bit_number (reverse signal)
-
 -- where a signal's words lead
-Means : List WireOf → Bool → Line → Bits → Type 0
-Means wires false ws signal =
-    (d : DraftOf) (t : Target) (rows : List Bits) (m : ℕ) (rest : List Word) → IsHere (over wires d) t m → Next d.design.free (numbers_of signal) m
+Means : List WireOf → Bool → Line → Bits → List ℕ → Type 0
+Means wires false ws signal numbers =
+    (d : DraftOf) (t : Target) (rows : List Bits) (m : ℕ) (rest : List Word) → IsHere (over wires d) t m → Next d.design.free numbers m
     → steps (over wires d) (Signal t rows) (ws ++ rest) ≡ steps (free_at (over wires d) m) (Part t (reverse signal ∷ rows)) rest
-Means wires true ws signal =
-    (d : DraftOf) (t : Target) (front : Bits) (rows : List Bits) (m : ℕ) (rest : List Word) → IsHere (over wires d) t m → Next d.design.free (numbers_of signal) m
+Means wires true ws signal numbers =
+    (d : DraftOf) (t : Target) (front : Bits) (rows : List Bits) (m : ℕ) (rest : List Word) → IsHere (over wires d) t m → Next d.design.free numbers m
     → steps (over wires d) (Signal t (front ∷ rows)) (ws ++ codes "}" ∷ rest) ≡ steps (free_at (over wires d) m) (Part t ((front ++ reverse signal) ∷ rows)) rest
 
 opened_rows : (d : DraftOf) (t : Target) (rows : List Bits) → step d (Signal t rows) (codes "{") ≡ goes_on d (Signal t ([] ∷ rows))
@@ -187,82 +201,56 @@ closed_rows : (d : DraftOf) (t : Target) (row front : Bits) (rows : List Bits) �
 unfolding word_step part_word
 closed_rows d t row front rows = refl
 
-none_bound : (row : Bits) → AllByRecursion IsBound row → flat_map bit_number row ≡ []
-none_bound [] h = refl
-none_bound (Wire w b ∷ row) h = none_bound row h.1
-none_bound (Const b ∷ row) h = none_bound row h.1
-none_bound (Free n ∷ row) h = absurd h.0
-
-no_numbers : (signal : Bits) → All IsBound signal → numbers_of signal ≡ []
-no_numbers signal h = none_bound (reverse signal) (recursion_from_All IsBound (reverse signal) (reverse_all IsBound signal h))
-
-cut_means : (wires : List WireOf) (ws : Line) (signal : Bits) (n m : ℕ) (inner : Word) → slice_of (91 ∷ inner) ≡ Some (n, m) → m ≤ n → n < length signal → All IsBound signal → Means wires false ws signal
-    → Means wires false (ws ++ (91 ∷ inner) ∷ []) (take (n - m + 1) (drop m signal))
+cut_means : (wires : List WireOf) (ws : Line) (signal : Bits) (numbers : List ℕ) (n m : ℕ) (inner : Word) → slice_of (91 ∷ inner) ≡ Some (n, m) → m ≤ n → n < length signal → Means wires false ws signal numbers
+    → Means wires false (ws ++ (91 ∷ inner) ∷ []) (take (n - m + 1) (drop m signal)) numbers
 unfolding Means
-cut_means wires ws signal n m inner e le lt bound p d t rows k rest here next =
+cut_means wires ws signal numbers n m inner e le lt p d t rows k rest here next =
     let cut_bits = take (n - m + 1) (drop m signal) in
-    let free = d.design.free in
-    let same : free ≡ k = subst (λ (x : List ℕ). Next free x k) (no_numbers cut_bits (All-take IsBound (n - m + 1) (drop m signal) (All-drop IsBound m signal bound))) next in
-    let before : IsHere (over wires d) t free = record { named = here.named; kept = here.kept; room = omega (arith, here.room, same) } in
-    let none : Next free (numbers_of signal) free = subst (λ (x : List ℕ). Next free x free) (sym (no_numbers signal bound)) refl in
+    let f = free_at (over wires d) k in
     ap (λ (x : List Word). steps (over wires d) (Signal t rows) x) (append_assoc ws ((91 ∷ inner) ∷ []) rest)
-    ∙ p d t rows free ((91 ∷ inner) ∷ rest) before none
-    ∙ one (over wires d) (over wires d) (Part t (reverse signal ∷ rows)) (Part t (reverse cut_bits ∷ rows)) (91 ∷ inner) rest (cut_step (over wires d) t rows signal n m inner e le lt)
-    ∙ ap (λ (x : ℕ). steps (free_at (over wires d) x) (Part t (reverse cut_bits ∷ rows)) rest) same
+    ∙ p d t rows k ((91 ∷ inner) ∷ rest) here next
+    ∙ one f f (Part t (reverse signal ∷ rows)) (Part t (reverse cut_bits ∷ rows)) (91 ∷ inner) rest (cut_step f t rows signal n m inner e le lt)
 
-wire_means : (wires : List WireOf) (w : ℕ) (x : WireOf) → slice_get wires w ≡ Some x → Means wires false (x.name ∷ []) (map (λ b. Wire w b) (range_with_len 0 x.width))
+wire_means : (wires : List WireOf) (w : ℕ) (x : WireOf) → slice_get wires w ≡ Some x → Means wires false (x.name ∷ []) (map (λ b. Wire w b) (range_with_len 0 x.width)) []
 unfolding Means
 wire_means wires w x at d t rows m rest here next =
-    let f = λ (b : ℕ). Wire w b in
-    let signal = map f (range_with_len 0 x.width) in
-    let row = reverse signal in
-    let same : d.design.free ≡ m = subst (λ (y : List ℕ). Next d.design.free y m) (ap (λ (y : Bits). flat_map bit_number y) (sym (wire_falls w x.width)) ∙ row_bound w x.width) next in
+    let row = reverse (map (λ (b : ℕ). Wire w b) (range_with_len 0 x.width)) in
     one (over wires d) (over wires d) (Signal t rows) (Part t (wire_row w x.width ∷ rows)) x.name rest (named_step (over wires d) t rows w x here.named at)
     ∙ ap (λ (y : Bits). steps (over wires d) (Part t (y ∷ rows)) rest) (wire_falls w x.width)
-    ∙ ap (λ (k : ℕ). steps (free_at (over wires d) k) (Part t (row ∷ rows)) rest) same
-  where
-    row_bound : (w n : ℕ) → flat_map bit_number (wire_row w n) ≡ []
-    row_bound w zero = refl
-    row_bound w (suc n) = row_bound w n
+    ∙ ap (λ (k : ℕ). steps (free_at (over wires d) k) (Part t (row ∷ rows)) rest) next
 
-constant_means : (wires : List WireOf) (signal : Bits) → 0 < length signal → length signal ≤ 2 ^ 26 → All IsDigitBit signal → Means wires false (constant_word (map bit_character (reverse signal)) ∷ []) signal
+constant_means : (wires : List WireOf) (w : Word) (states : List State) (signal : Bits) → 0 < length signal → IsConstantText w states → AllZip IsBitOf states (reverse signal) → Means wires false (w ∷ []) signal (signal_numbers signal)
 unfolding Means
-constant_means wires signal some few digits d t rows m rest here next =
+constant_means wires w states signal some c z d t rows m rest here next =
     let row = reverse signal in
-    let text = map bit_character row in
-    let word = constant_word text in
-    let all = recursion_from_All IsDigitBit row (reverse_all IsDigitBit signal digits) in
-    let short = short_constant signal few in
-    let read = constant_read 1 text (omega arith) short (characters_fine row all).0 in
-    let step_word = constant_step (over wires d) t rows text word (plain_constant text short) read in
-    one (over wires d) (free_at (over wires d) m) (Signal t rows) (Part t (row ∷ rows)) word rest (step_word ∙ part_is (over wires d) t rows row m (omega (arith, some, length-reverse signal)) all here next)
+    let word = constant_step (over wires d) t rows (state_digits states) w (constant_plain w states c) (states_read 1 w states (omega arith) c) in
+    one (over wires d) (free_at (over wires d) m) (Signal t rows) (Part t (row ∷ rows)) w rest (word ∙ part_is (over wires d) t rows states row m (omega (arith, some, length-reverse signal)) z here next)
 
-braces_mean : (wires : List WireOf) (ws : Line) (signal : Bits) → Means wires true ws signal → Means wires false (codes "{" ∷ (ws ++ codes "}" ∷ [])) signal
+braces_mean : (wires : List WireOf) (ws : Line) (signal : Bits) (numbers : List ℕ) → Means wires true ws signal numbers → Means wires false (codes "{" ∷ (ws ++ codes "}" ∷ [])) signal numbers
 unfolding Means
-braces_mean wires ws signal p d t rows m rest here next =
+braces_mean wires ws signal numbers p d t rows m rest here next =
     one (over wires d) (over wires d) (Signal t rows) (Signal t ([] ∷ rows)) (codes "{") ((ws ++ codes "}" ∷ []) ++ rest) (opened_rows (over wires d) t rows)
     ∙ ap (λ (x : List Word). steps (over wires d) (Signal t ([] ∷ rows)) x) (append_assoc ws (codes "}" ∷ []) rest)
     ∙ p d t [] rows m rest here next
 
-last_means : (wires : List WireOf) (ws : Line) (signal : Bits) → Means wires false ws signal → Means wires true ws signal
+last_means : (wires : List WireOf) (ws : Line) (signal : Bits) (numbers : List ℕ) → Means wires false ws signal numbers → Means wires true ws signal numbers
 unfolding Means
-last_means wires ws signal p d t front rows m rest here next =
+last_means wires ws signal numbers p d t front rows m rest here next =
     let e = free_at (over wires d) m in
     p d t (front ∷ rows) m (codes "}" ∷ rest) here next
     ∙ one e e (Part t (reverse signal ∷ front ∷ rows)) (Part t ((front ++ reverse signal) ∷ rows)) (codes "}") rest (closed_rows e t (reverse signal) front rows)
 
-above_means : (wires : List WireOf) (ws vs : Line) (high low : Bits) → IsFirst vs → Means wires false ws high → Means wires true vs low → Means wires true (ws ++ vs) (low ++ high)
+above_means : (wires : List WireOf) (ws vs : Line) (high low : Bits) (numbers others : List ℕ) → IsFirst vs → Means wires false ws high numbers → Means wires true vs low others → Means wires true (ws ++ vs) (low ++ high) (numbers ++ others)
 unfolding Means
-above_means wires ws vs high low first p q d t front rows m rest here next =
+above_means wires ws vs high low numbers others first p q d t front rows m rest here next =
     let turned : reverse (low ++ high) ≡ reverse high ++ reverse low = reverse-append low high in
-    let numbers : Next d.design.free (numbers_of high ++ numbers_of low) m =
-    subst (λ (x : List ℕ). Next d.design.free x m) (ap (λ (x : Bits). flat_map bit_number x) turned ∙ flat_map-append bit_number (reverse high) (reverse low)) next in
-    let split = next_split d.design.free m (numbers_of high) (numbers_of low) numbers in
+    let split = next_split d.design.free m numbers others next in
     let k = split.0 in
-    let lower : k ≤ m = next_rises k m _ split.2 in
+    let lower : k ≤ m = next_rises k m others split.2 in
     let e = free_at d k in
-    let begun : IsHere (over wires d) t k = record { named = here.named; kept = here.kept; room = omega (arith, here.room) } in
-    let then : IsHere (over wires e) t m = record { named = here.named; kept = here.kept; room = here.room } in
+    let upper : d.design.free ≤ k = next_rises d.design.free k numbers split.1 in
+    let begun : IsHere (over wires d) t k = record { named = here.named; kept = λ i. omega (arith, here.kept i, lower, upper); room = omega (arith, here.room) } in
+    let then : IsHere (over wires e) t m = record { named = here.named; kept = λ i. omega (arith, here.kept i, lower, upper); room = here.room } in
     let tail = vs ++ codes "}" ∷ rest in
     let words : tail ≡ first.word ∷ (first.more ++ codes "}" ∷ rest) = ap (λ (x : Line). x ++ codes "}" ∷ rest) first.are in
     ap (λ (x : List Word). steps (over wires d) (Signal t (front ∷ rows)) x) (append_assoc ws vs (codes "}" ∷ rest))
@@ -273,30 +261,33 @@ above_means wires ws vs high low first p q d t front rows m rest here next =
     ∙ q e t (front ++ reverse high) rows m rest then split.2
     ∙ ap (λ (x : Bits). steps (free_at (over wires d) m) (Part t (x ∷ rows)) rest) (append_assoc front (reverse high) (reverse low) ∙ ap (λ (x : Bits). front ++ x) (sym turned))
 
-text_means : (wires : List WireOf) (parts : Bool) (ws : Line) (signal : Bits) → AreNamed wires → IsSignalText wires parts ws signal → Means wires parts ws signal
-text_means wires parts ws signal n (wire w x at) = wire_means wires w x at
-text_means wires parts ws signal n (constant s some few a) = constant_means wires s some few a
-text_means wires parts ws signal n (bit vs s i lt few a p) =
+text_means : (wires : List WireOf) (parts : Bool) (ws : Line) (signal : Bits) (numbers : List ℕ) → AreNamed wires → IsSignalText wires parts ws signal numbers → Means wires parts ws signal numbers
+text_means wires parts ws signal numbers n (wire w x at) = wire_means wires w x at
+text_means wires parts ws signal numbers n (constant w states s some c z) = constant_means wires w states s some c z
+text_means wires parts ws signal numbers n (bit vs s ns w i t lt p) =
     let one_bit : i - i + 1 ≡ 1 = omega arith in
-    subst (λ (k : ℕ). Means wires false (vs ++ index_word i ∷ []) (take k (drop i s))) one_bit (cut_means wires vs s i i _ (index_read i (omega arith)) (omega arith) lt a (text_means wires false vs s n p))
-text_means wires parts ws signal n (range vs s i j le lt few a p) = cut_means wires vs s i j _ (range_read i j few le) le lt a (text_means wires false vs s n p)
-text_means wires parts ws signal n (braces vs s p) = braces_mean wires vs s (text_means wires true vs s n p)
-text_means wires parts ws signal n (last vs s p) = last_means wires vs s (text_means wires false vs s n p)
-text_means wires parts ws signal n (above us vs high low p q) = above_means wires us vs high low (first_of wires true vs low n q) (text_means wires false us high n p) (text_means wires true vs low n q)
+    let inner = w ++ 93 ∷ [] in
+    let cut = cut_means wires vs s ns i i inner (index_of i w (number_figures w i t) (number_read w i t)) (omega arith) lt (text_means wires false vs s ns n p) in
+    subst (λ (k : ℕ). Means wires false (vs ++ (91 ∷ inner) ∷ []) (take k (drop i s)) ns) one_bit cut
+text_means wires parts ws signal numbers n (range vs s ns w v i j t u le lt p) =
+    cut_means wires vs s ns i j ((w ++ 58 ∷ v) ++ 93 ∷ []) (range_of i j w v (number_figures w i t) (number_read w i t) (number_read v j u)) le lt (text_means wires false vs s ns n p)
+text_means wires parts ws signal numbers n (braces vs s ns p) = braces_mean wires vs s ns (text_means wires true vs s ns n p)
+text_means wires parts ws signal numbers n (last vs s ns p) = last_means wires vs s ns (text_means wires false vs s ns n p)
+text_means wires parts ws signal numbers n (above us vs high low ns ms p q) = above_means wires us vs high low ns ms (first_of wires true vs low ms n q) (text_means wires false us high ns n p) (text_means wires true vs low ms n q)
 
-pub text_steps : (d : DraftOf) (t : Target) (ws : Line) (signal : Bits) (m : ℕ) (rest : List Word) → IsHere d t m → IsSignalText d.design.wires false ws signal → Next d.design.free (numbers_of signal) m
+pub text_steps : (d : DraftOf) (t : Target) (ws : Line) (signal : Bits) (numbers : List ℕ) (m : ℕ) (rest : List Word) → IsHere d t m → IsSignalText d.design.wires false ws signal numbers → Next d.design.free numbers m
     → steps d (Signal t []) (ws ++ rest) ≡ steps (free_at d m) (Part t (reverse signal ∷ [])) rest
 unfolding Means
-text_steps d t ws signal m rest here p next = text_means d.design.wires false ws signal here.named p d t [] m rest here next
+text_steps d t ws signal numbers m rest here p next = text_means d.design.wires false ws signal numbers here.named p d t [] m rest here next
 
 -- on the right of a connect, whose left has been read as this row
-pub right_steps : (d : DraftOf) (row : Bits) (ws : Line) (signal : Bits) (m : ℕ) (rest : List Word) → IsHere d (Right (reverse row)) m → IsSignalText d.design.wires false ws signal → Next d.design.free (numbers_of signal) m
+pub right_steps : (d : DraftOf) (row : Bits) (ws : Line) (signal : Bits) (numbers : List ℕ) (m : ℕ) (rest : List Word) → IsHere d (Right (reverse row)) m → IsSignalText d.design.wires false ws signal numbers → Next d.design.free numbers m
     → steps d (Part Left (row ∷ [])) (ws ++ rest) ≡ steps (free_at d m) (Part (Right (reverse row)) (reverse signal ∷ [])) rest
-right_steps d row ws signal m rest here p next =
+right_steps d row ws signal numbers m rest here p next =
     let t : Target = Right (reverse row) in
-    let first = first_of d.design.wires false ws signal here.named p in
+    let first = first_of d.design.wires false ws signal numbers here.named p in
     let words : ws ++ rest ≡ first.word ∷ (first.more ++ rest) = ap (λ (x : Line). x ++ rest) first.are in
     ap (λ (x : List Word). steps d (Part Left (row ∷ [])) x) words
     ∙ same_step d d (Part Left (row ∷ [])) (Signal t []) first.word (first.more ++ rest) (first.right d row)
     ∙ ap (λ (x : List Word). steps d (Signal t []) x) (sym words)
-    ∙ text_steps d t ws signal m rest here p next
+    ∙ text_steps d t ws signal numbers m rest here p next
