@@ -311,6 +311,37 @@ impl Analysis {
         Ok(None)
     }
 
+    // Resolves the literals that aren't decisions from the end of the trail on. Returns the last decision.
+    fn resolve_to_decisions(
+        &mut self,
+        core: &Propagator,
+        root: usize,
+        base: usize,
+    ) -> Result<Option<Lit>, AllocError>
+        requires sized { length self.old.seen.items ≡ 2 * core.now.vars + 2 }
+        ensures sized { length self.new.seen.items ≡ 2 * core.now.vars + 2 }
+        ensures listed { AreMarksListed core.now.trail base self.old.seen.items self.old.lower.items self.old.current.items
+            → AreMarksListed core.now.trail base self.new.seen.items self.new.lower.items self.new.current.items }
+        ensures supports { IfOk result (λ o. Supports (clauses_of core.now.slots) core.now.trail root self.old.seen.items
+            → IfSome o (λ l. Supports (clauses_of core.now.slots) core.now.trail root self.new.seen.items)) }
+        ensures on { IfOk result (λ o. IfSome o (λ l. Contains core.now.trail l)) }
+    {
+        let trail = core.trail();
+        for taken in root..trail.len() {
+            let l = trail[trail.len() - 1 - (taken - root)];
+            if !self.seen[l.index()] || core.reason(l) as usize >= core.len() {
+                continue;
+            }
+            if !self.resolve(core, l, root, base)? {
+                return Ok(None);
+            }
+        }
+        if base >= trail.len() {
+            return Ok(None);
+        }
+        Ok(Some(trail[base]))
+    }
+
     // Whether the negation of a literal is marked, or true at level 0.
     fn is_seen_or_root(&self, core: &Propagator, m: Lit, root: usize) -> bool
         requires below { m.var ≤ core.now.vars }
@@ -490,6 +521,28 @@ impl Analysis {
             return Ok(None);
         }
         self.resolve_to_uip(core, root, base)
+    }
+
+    // Resolves a falsified clause until decisions alone are left. Returns the last of these.
+    pub fn last_decision(
+        &mut self,
+        core: &Propagator,
+        k: u32,
+        root: usize,
+        base: usize,
+    ) -> Result<Option<Lit>, AllocError>
+        requires clause { k < length core.now.slots }
+        requires sized { length self.old.seen.items ≡ 2 * core.now.vars + 2 }
+        requires listed { AreMarksListed core.now.trail base self.old.seen.items self.old.lower.items self.old.current.items }
+        ensures sized { length self.new.seen.items ≡ 2 * core.now.vars + 2 }
+        ensures listed { AreMarksListed core.now.trail base self.new.seen.items self.new.lower.items self.new.current.items }
+        ensures supports { IfOk result (λ o. IfSome o (λ l. Supports (clauses_of core.now.slots) core.now.trail root self.new.seen.items)) }
+        ensures on { IfOk result (λ o. IfSome o (λ l. Contains core.now.trail l)) }
+    {
+        if !self.begin(core, k, root, base)? {
+            return Ok(None);
+        }
+        self.resolve_to_decisions(core, root, base)
     }
 
     // Builds the clause that is learnt, without these literals, which follow from its others. Returns its first literal.

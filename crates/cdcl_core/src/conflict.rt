@@ -12,11 +12,13 @@ ghost use Rattle.cdcl_core.specs.Searching.{IsAddable, IsNamedBy, IsSolver, Lead
 
 use crate::analysis::Analysis;
 use crate::learn::{assert_learnt, backtrack_to_root, negate_trail};
+use crate::learnts::Learnts;
 use crate::log::Log;
 use crate::minimizer::Minimizer;
 use crate::restarts::Restarts;
 use crate::solver::{Solver, Step};
 use crate::stop::Stop;
+use crate::vivifier::Vivifier;
 use cnf_form::Lit;
 use decision_order::Order;
 use std::alloc::AllocError;
@@ -66,6 +68,20 @@ fn minimize(
     analysis.finish(core, l, minimizer.implied(), root, base)
 }
 
+// Counts a conflict, unless it is that of a probe: then the clause that is learnt replaces another. Returns its glue.
+fn count_learnt(
+    core: &Propagator,
+    clause: &[Lit],
+    restarts: &mut Restarts,
+    learnts: &mut Learnts,
+    vivifier: &mut Vivifier,
+) -> u32 {
+    if vivifier.is_probing() {
+        return vivifier.replace(learnts, clause.len());
+    }
+    restarts.count(core, clause)
+}
+
 impl Solver {
     // Builds the clause that is learnt from a falsified one. Returns its first literal.
     fn analyze_conflict(&mut self, k: u32) -> Result<Lit, AllocError>
@@ -86,10 +102,17 @@ impl Solver {
         let core = &self.core;
         let base = core.limit(core.levels() - 1);
         let root = core.limit(0);
-        self.order.set_stable(self.restarts.is_stable());
-        self.order.save_target(&core.trail()[..base]);
-        let point = self.analysis.first_uip(core, k, root, base)?;
-        bump_all(&self.analysis, &mut self.order)?;
+        let point = if self.vivifier.is_probing() {
+            self.vivifier.spend(core);
+            self.analysis.last_decision(core, k, root, base)?
+        } else {
+            self.order.set_stable(self.restarts.is_stable());
+            self.order.save_target(&core.trail()[..base]);
+            self.vivifier.grant(core.trail().len() - base);
+            let point = self.analysis.first_uip(core, k, root, base)?;
+            bump_all(&self.analysis, &mut self.order)?;
+            point
+        };
         let learnt = minimize(
             core,
             &mut self.analysis,
@@ -198,7 +221,13 @@ impl Solver {
         self.find_hints()?;
         let id = self.ids.next()?;
         let clause = self.analysis.clause();
-        let glue = self.restarts.count(&self.core, clause);
+        let glue = count_learnt(
+            &self.core,
+            clause,
+            &mut self.restarts,
+            &mut self.learnts,
+            &mut self.vivifier,
+        );
         if log.clause(clause, id, self.chain.hints()).is_err() {
             return Err(Stop::Failed);
         }

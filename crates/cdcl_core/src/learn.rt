@@ -94,6 +94,27 @@ fn unassign_from(core: &Propagator, order: &mut Order, place: usize) -> Result<(
     Ok(())
 }
 
+// Backtracks to a level from one above it, after a conflict too.
+pub(crate) fn backtrack_to(
+    core: &mut Propagator,
+    order: &mut Order,
+    level: usize,
+) -> Result<(), AllocError>
+    requires justified { IsJustified core.old }
+    requires above { level < length core.old.limits }
+    ensures vars { core.new.vars ≡ core.old.vars }
+    ensures slots { core.new.slots ≡ core.old.slots }
+    ensures limits { OnOk result (core.new.limits ≡ take level core.old.limits) }
+    ensures justified { IsJustified core.new }
+    ensures conflict { OnOk result (core.new.conflict ≡ false) }
+    ensures same { core.old.conflict ≡ false → core.new.conflict ≡ false }
+{
+    core.levels_are_complete();
+    unassign_from(core, order, core.limit(level))?;
+    core.backtrack(level);
+    Ok(())
+}
+
 // Backtracks to level 0 from a level above it, after a conflict too.
 pub(crate) fn backtrack_to_root(core: &mut Propagator, order: &mut Order) -> Result<(), AllocError>
     requires justified { IsJustified core.old }
@@ -105,10 +126,7 @@ pub(crate) fn backtrack_to_root(core: &mut Propagator, order: &mut Order) -> Res
     ensures conflict { OnOk result (core.new.conflict ≡ false) }
     ensures same { core.old.conflict ≡ false → core.new.conflict ≡ false }
 {
-    core.levels_are_complete();
-    unassign_from(core, order, core.limit(0))?;
-    core.backtrack(0);
-    Ok(())
+    backtrack_to(core, order, 0)
 }
 
 // Backtracks to level 0, where no clause is falsified.

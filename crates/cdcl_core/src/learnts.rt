@@ -52,6 +52,8 @@ pub(crate) struct Learnts {
     first: usize,
     glues: Vec<u32>,
     used: Vec<u8>,
+    fresh: usize,
+    round: u64,
     given: usize,
     learnt: usize,
     due: u64,
@@ -69,6 +71,8 @@ impl Learnts {
             first: clauses.len(),
             glues: Vec::new(alloc),
             used: Vec::new(alloc),
+            fresh: 0,
+            round: 0,
             given,
             learnt: 0,
             due: FIRST_INTERVAL,
@@ -115,9 +119,46 @@ impl Learnts {
         if conflicts < self.due {
             return false;
         }
+        self.round = self.round.saturating_add(1);
         self.interval = self.interval.saturating_add(INTERVAL_STEP);
         self.due = conflicts.saturating_add(self.interval);
         true
+    }
+
+    // How many reductions there were.
+    pub fn round(&self) -> u64 {
+        self.round
+    }
+
+    // Lists the clauses of low glue that are worth being vivified, each once.
+    pub fn list_fresh(
+        &mut self,
+        core: &Propagator,
+        numbers: &mut Vec<u32>,
+    ) -> Result<(), AllocError> {
+        for place in self.fresh..self.glues.len() {
+            let number = self.first.saturating_add(place);
+            if number >= core.len() {
+                break;
+            }
+            if self.glues[place] <= MIDDLE_GLUE {
+                numbers.push(number as u32)?;
+            }
+        }
+        self.fresh = self.glues.len();
+        Ok(())
+    }
+
+    // A clause isn't worth keeping any more. Returns the glue that it had.
+    pub fn retire(&mut self, number: u32) -> u32 {
+        let place = (number as usize).wrapping_sub(self.first);
+        if place >= self.used.len() || place >= self.glues.len() {
+            return GOOD_GLUE;
+        }
+        let glue = self.glues[place];
+        self.glues[place] = u32::MAX;
+        self.used[place] = 0;
+        glue
     }
 
     fn candidate(&self, core: &Propagator, place: usize, good: u32) -> Option<Candidate> {
@@ -187,6 +228,7 @@ impl Learnts {
         let mut glues = Vec::new(alloc);
         let mut used = Vec::new(alloc);
         self.learnt = 0;
+        let mut fresh: usize = 0;
         let first = self.first;
         for number in first..core.len() {
             let place = number - first;
@@ -196,11 +238,15 @@ impl Learnts {
             if let Some(clause) = core.clause(number as u32) {
                 glues.push(self.glues[place])?;
                 used.push(self.used[place])?;
+                if place < self.fresh {
+                    fresh = used.len();
+                }
                 self.learnt = self.learnt.saturating_add(clause.len());
             }
         }
         self.glues = glues;
         self.used = used;
+        self.fresh = fresh;
         Ok(())
     }
 }

@@ -18,6 +18,8 @@ mod search;
 mod solver;
 mod stop;
 mod thaw;
+mod vivifier;
+mod vivify;
 
 pub use crate::laws::logged_lines_are_a_proof;
 pub use crate::log::Log;

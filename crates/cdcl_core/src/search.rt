@@ -11,6 +11,7 @@ ghost use Rattle.cdcl_core.specs.Searching.{IsSolver, Moves};
 use crate::choose::choose;
 use crate::learn::restart;
 use crate::solver::Solver;
+use crate::vivify::probe_learnts;
 use cnf_form::{Formula, Lit};
 use decision_order::{Order, rephase_by_local_search};
 use std::alloc::AllocError;
@@ -24,7 +25,7 @@ pub(crate) enum Found {
 }
 
 // Decides a literal. Returns the falsified clause, if there is one.
-fn decide(core: &mut Propagator, l: Lit) -> Result<Option<u32>, AllocError>
+pub(crate) fn decide(core: &mut Propagator, l: Lit) -> Result<Option<u32>, AllocError>
     requires justified { IsJustified core.old }
     requires conflict { core.old.conflict ≡ false }
     requires lit { LitWithin core.old.vars l }
@@ -65,7 +66,7 @@ fn decide_on(
 }
 
 impl Solver {
-    // Whether the search is to begin again at level 0: also after a lucky guess, and where local search is to begin.
+    // Whether the search is to begin again at level 0: also after a lucky guess or a probe, and where local search is to begin.
     fn is_restart_due(&mut self) -> bool
         ensures given { self.new.given ≡ self.old.given }
         ensures core { self.new.core ≡ self.old.core }
@@ -80,7 +81,10 @@ impl Solver {
         if guesses {
             self.restarts.begin();
         }
-        self.restarts.is_due() || guesses || self.order.wants_first_local_search()
+        self.vivifier.is_probing()
+            || self.restarts.is_due()
+            || guesses
+            || self.order.wants_first_local_search()
     }
 
     // Thaws the frozen clauses at which something is left to do, where level 0 has grown.
@@ -138,6 +142,15 @@ impl Solver {
         }
         if self.core.conflict() {
             return Ok(Found::Refuted);
+        }
+        if let Some(k) = probe_learnts(
+            &mut self.core,
+            &mut self.order,
+            &mut self.learnts,
+            &mut self.vivifier,
+        )? {
+            self.pending = Some(k);
+            return Ok(Found::Falsified(k));
         }
         match decide_on(&mut self.core, &mut self.order, formula)? {
             Some(k) => {

@@ -20,6 +20,7 @@ use crate::minimizer::Minimizer;
 use crate::restarts::Restarts;
 use crate::search::Found;
 use crate::stop::Stop;
+use crate::vivifier::Vivifier;
 use cnf_form::{Formula, Lit};
 use decision_order::Order;
 use frozen_clauses::Frozen;
@@ -70,6 +71,7 @@ pub(crate) struct Solver {
     pub(crate) ids: Ids,
     pub(crate) chain: Chain,
     pub(crate) noted: usize,
+    pub(crate) vivifier: Vivifier,
 }
 
 // The values of all variables, that of each at its number.
@@ -116,6 +118,7 @@ impl Solver {
         let restarts = Restarts::new(alloc, vars, has_goal)?;
         let minimizer = Minimizer::new(alloc, vars)?;
         let frozen = Frozen::new(alloc, vars)?;
+        let vivifier = Vivifier::new(alloc, vars)?;
         let ids = Ids::new(alloc, hinted, vars, formula.clauses().len())?;
         Ok(Solver {
             alloc,
@@ -134,6 +137,7 @@ impl Solver {
             ids,
             chain: Chain::new(alloc),
             noted: 0,
+            vivifier,
         })
     }
 

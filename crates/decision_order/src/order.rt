@@ -33,6 +33,7 @@ pub struct Order {
     pub goals: Goals,
     pub lucky: Lucky,
     stable: bool,
+    probing: bool,
     stretches: u32,
     targets: Vec<bool>,
     longest: usize,
@@ -64,6 +65,7 @@ impl Order {
             goals: Goals::new(has_goal),
             lucky: Lucky::new(has_goal),
             stable: false,
+            probing: false,
             stretches: 0,
             targets,
             longest: 0,
@@ -104,6 +106,11 @@ impl Order {
             }
         }
         self.stable = stable;
+    }
+
+    /// Decisions are probes, from now on or not any more: no phase is kept of them.
+    pub fn set_probing(&mut self, probing: bool) {
+        self.probing = probing;
     }
 
     /// Whether local search is to begin or to go on, once guesses are over.
@@ -235,12 +242,12 @@ impl Order {
         top
     }
 
-    /// A variable is unassigned again: keeps the phase that it had, unless that was guessed.
+    /// A variable is unassigned again: keeps the phase that it had, unless that was guessed or of a probe.
     pub fn unassign(&mut self, var: u32, phase: bool) -> Result<(), AllocError> {
         let index = var as usize;
         self.rephasing.count_unassigned();
         self.queue.unassign(var);
-        if index < self.phases.len() && !self.lucky.is_left() {
+        if index < self.phases.len() && !self.probing && !self.lucky.is_left() {
             self.phases[index] = phase;
         }
         if index < self.places.len() && self.places[index] == NO_PLACE {
