@@ -1,32 +1,28 @@
 -- What a search and the end of its answer write.
-use Rattle.std.proofs.Common.{◌≡◌, ◌⊎◌, ℕ, ◌+◌, ◌<◌, ◌≤◌, Bool, true, false, List, [], ◌∷◌, ◌++◌, length, take, refl, ap, ◌∙◌, sym, subst, inl, inr, append-nil, arith}
+use Rattle.std.proofs.Common.{◌≡◌, ◌⊎◌, ℕ, ◌+◌, ◌<◌, ◌≤◌, Bool, List, [], ◌∷◌, ◌++◌, length, take, refl, ap, ◌∙◌, sym, subst, inl, inr, append-nil, arith}
 use Rattle.std.proofs.Math.Seq.{take-append_seam}
 use Rattle.std.proofs.lemmas.List.Elements.{All-nil, All-push}
 use Rattle.cnf_form.specs.Cnf.{FormulaOf, LitOf, Line, Addition, Deletion}
-use Rattle.std.specs.Prelude.{Option, Result, Ok, Err, IfOk, OnOk}
+use Rattle.std.specs.Prelude.{IsTrue, Option, Result, Ok, Err, IfOk, OnOk}
 use Rattle.cnf_form.specs.Dimacs.{IsDimacs}
 use Rattle.cnf_form.specs.Reading.{IsFault}
 use Rattle.cnf_form.specs.declared.reader.DimacsFaultKind.{DimacsFaultKind}
 use Rattle.sby_edge.specs.Cause.{Rose}
 use Rattle.sby_edge.specs.declared.outside.Fail.{Fail}
 use Rattle.net_answer.specs.Written.{Wrote as Streamed}
-use Rattle.cdcl_core.specs.Logged.{Logged, IsProper, MayFollow, additions, clause_of, none}
+use Rattle.cdcl_core.specs.Logged.{Logged, additions, none}
 use Rattle.cdcl_core.specs.Lines.{LogLine, Adds, Notes, Drops, plain, IsProperLine, HeldOf, held_first, held_after, IsHintedLine, LineFollows}
 use Rattle.cdcl_core.specs.declared.solver.Solved.{Solved}
 use Rattle.cdcl_core.specs.declared.solver.Solved.TheVariants.{Sat, Unsat, Budget, LogFailed}
 use Rattle.cdcl_core.proofs.Solutions.{logged_count, plain_push, hinted_push}
-use Rattle.cdcl_run.specs.HintedAnswer.{IsAnswerBy, IsHintedSearchText, IsSearchTextBy}
-use Rattle.cdcl_run.specs.HintedText.{hinted_text}
-use Rattle.cdcl_run.specs.Searching.{EndBreaks, IsEnd, IsLogged, IsProof, Searches, Stops, text_by}
+use Rattle.cdcl_run.specs.Answer.{IsAnswer, IsSearchText}
+use Rattle.cdcl_run.specs.Searching.{EndBreaks, IsEnd, IsLogged, Searches, Stops, text_by}
 use Rattle.cdcl_run.specs.Output.{Breaks, GrownByFirst, GrownBySome, OutputOf, Puts, grown}
 use Rattle.cdcl_run.specs.Stream.{IsStream}
-use Rattle.cdcl_run.specs.Text.{fault_line, log_text, proof_text, unsatisfiable_line}
-use Rattle.cdcl_run.proofs.HintedStreams.{hinted_of, hinted_sat, hinted_unsat}
-use Rattle.cdcl_run.proofs.Plain.{plain_proof, plain_text}
-use Rattle.cdcl_run.proofs.Proofs.{searched_of}
+use Rattle.cdcl_run.specs.Text.{fault_line, unsatisfiable_line}
+use Rattle.cdcl_run.proofs.Chains.{text_none}
 use Rattle.cdcl_run.proofs.Putting.{breaks_more, puts_both, puts_breaks}
-use Rattle.cdcl_run.proofs.Sat.{sat_stream}
-use Rattle.cdcl_run.proofs.Unsat.{unsat_stream}
+use Rattle.cdcl_run.proofs.Streams.{sat_stream, unsat_stream}
 
 -- of what was put after nothing was gathered, all that isn't gathered was written
 begun_split : (old new : OutputOf) (text : List ℕ) → old.gathered ≡ [] → (p : Puts old new text) → text ≡ p.written ++ new.gathered
@@ -37,9 +33,9 @@ pub record Wrote (hinted : Bool) (job : List ℕ) (budget : ℕ) (old new : Outp
   pub stream : List ℕ
   pub taken : new.taken ≡ grown old.taken stream
   pub still : new.faults ≡ old.faults
-  pub answer : IsAnswerBy hinted job budget stream exit
+  pub answer : IsAnswer hinted job budget stream exit
 
-wrote : (hinted : Bool) (job : List ℕ) (budget : ℕ) (old new : OutputOf) (exit : ℕ) (stream : List ℕ) → old.gathered ≡ [] → new.gathered ≡ [] → Puts old new stream → IsAnswerBy hinted job budget stream exit → Wrote hinted job budget old new exit
+wrote : (hinted : Bool) (job : List ℕ) (budget : ℕ) (old new : OutputOf) (exit : ℕ) (stream : List ℕ) → old.gathered ≡ [] → new.gathered ≡ [] → Puts old new stream → IsAnswer hinted job budget stream exit → Wrote hinted job budget old new exit
 wrote hinted job budget old new exit stream begun done p a =
     let is : stream ≡ p.written = begun_split old new stream begun p ∙ ap (λ z. p.written ++ z) done ∙ append-nil p.written in
     record { stream = stream; taken = p.taken ∙ ap (grown old.taken) (sym is); still = p.still; answer = a }
@@ -48,47 +44,19 @@ wrote hinted job budget old new exit stream begun done p a =
 pub record Whole (hinted : Bool) (job : List ℕ) (budget : ℕ) (old mid : OutputOf) (text : List ℕ) (exit : ℕ) : Type 0 where
   pub first : List ℕ
   pub puts : Puts old mid first
-  pub answer : IsAnswerBy hinted job budget (first ++ text) exit
-
--- the text of the lines and of the empty clause
-last_text : (ls : List LogLine) (id : ℕ) (hints : List ℕ) → log_text (ls ++ Adds [] id hints ∷ []) ≡ proof_text (plain ls ++ Addition [] ∷ [])
-last_text ls id hints = plain_text (ls ++ Adds [] id hints ∷ []) ∙ ap proof_text (plain_push ls (Adds [] id hints))
+  pub answer : IsAnswer hinted job budget (first ++ text) exit
 
 whole : (hinted : Bool) (job : List ℕ) (f : FormulaOf) (budget : ℕ) (old mid : OutputOf) (s : Solved) (text : List ℕ) (exit : ℕ) → IsDimacs job f → Searches hinted f budget old mid s → IsEnd f.vars s text exit → Whole hinted job budget old mid text exit
-whole false job f budget old mid (Sat values) text exit d s e =
+whole hinted job f budget old mid (Sat values) text exit d s e =
+    let first = text_by hinted s.0 in
     let v = e.1 in
-    let first = log_text s.0 in
-    record {
-      first = first;
-      puts = s.6;
-      answer = inr (inl (e.0, sat_stream job f budget (plain s.0) s.1 s.2 values.items v.0 (first ++ text) d (plain_proof f s.0 s.1 s.2 s.3 s.4) s.5 s.8 v.1 (ap (λ z. z ++ text) (plain_text s.0) ∙ ap (λ z. proof_text (plain s.0) ++ z) v.2)));
-    }
-whole false job f budget old mid Unsat text exit d s e =
-    let first = log_text (s.0 ++ Adds [] s.6 s.7 ∷ []) in
-    record {
-      first = first;
-      puts = s.8;
-      answer = inl (e.0, unsat_stream job f budget (plain s.0) s.1 s.2 (first ++ text) d (plain_proof f s.0 s.1 s.2 s.3 s.4) s.5 s.9 (ap (λ z. z ++ text) (last_text s.0 s.6 s.7) ∙ ap (λ z. proof_text (plain s.0 ++ Addition [] ∷ []) ++ z) e.1));
-    }
-whole false job f budget old mid Budget text exit d s e =
-    let first = log_text s.0 in
-    record {
-      first = first;
-      puts = s.4;
-      answer = inr (inr (e.0, record { proof = plain s.0; searched = searched_of job f (plain s.0) s.1 budget d (plain_proof f s.0 s.1 budget s.2 s.3); is = ap (λ z. z ++ text) (plain_text s.0) ∙ ap (λ z. proof_text (plain s.0) ++ z) e.1 }));
-    }
-whole true job f budget old mid (Sat values) text exit d s e =
-    let v = e.1 in
-    record {
-      first = hinted_text s.0;
-      puts = s.6;
-      answer = inr (inl (e.0, hinted_sat job f budget s.0 s.1 s.2 s.3 values.items v.0 (hinted_text s.0 ++ text) d s.4 s.5 s.8 v.1 (ap (λ z. hinted_text s.0 ++ z) v.2)));
-    }
-whole true job f budget old mid Unsat text exit d s e =
-    let first = hinted_text (s.0 ++ Adds [] s.6 s.7 ∷ []) in
-    record { first = first; puts = s.8; answer = inl (e.0, hinted_unsat job f budget s.0 s.1 s.2 s.3 s.6 s.7 (first ++ text) d s.4 s.5 s.9 s.10 (s.11 refl) (ap (λ z. first ++ z) e.1)) }
-whole true job f budget old mid Budget text exit d s e =
-    record { first = hinted_text s.0; puts = s.4; answer = inr (inr (e.0, record { lines = s.0; searched = hinted_of job f s.0 s.1 budget s.2 d s.3; is = ap (λ z. hinted_text s.0 ++ z) e.1 })) }
+    record { first = first; puts = s.6; answer = inr (inl (e.0, sat_stream job f budget s.0 s.1 s.2 s.3 d hinted values.items v.0 (first ++ text) s.4 s.5 s.8 v.1 (ap (λ z. first ++ z) v.2))) }
+whole hinted job f budget old mid Unsat text exit d s e =
+    let first = text_by hinted (s.0 ++ Adds [] s.6 s.7 ∷ []) in
+    record { first = first; puts = s.8; answer = inl (e.0, unsat_stream job f budget s.0 s.1 s.2 s.3 d hinted s.6 s.7 (first ++ text) s.4 s.5 s.9 s.10 s.11 (ap (λ z. first ++ z) e.1)) }
+whole hinted job f budget old mid Budget text exit d s e =
+    let first = text_by hinted s.0 in
+    record { first = first; puts = s.4; answer = inr (inr (e.0, record { lines = s.0; searched = record { formula = f; is_formula = d; present = s.1; held = s.2; logged = s.3 }; is = ap (λ z. first ++ z) e.1 })) }
 whole hinted job f budget old mid LogFailed text exit d s e = absurd e
 
 pub answer_written : (hinted : Bool) (job : List ℕ) (f : FormulaOf) (budget : ℕ) (old mid new : OutputOf) (s : Solved) (text : List ℕ) (exit : ℕ) → IsDimacs job f → old.gathered ≡ [] → new.gathered ≡ [] → Searches hinted f budget old mid s
@@ -103,9 +71,9 @@ pub record Cut (hinted : Bool) (job : List ℕ) (budget : ℕ) (old new : Output
   pub later : old.faults ≤ new.faults
   pub text : List ℕ
   pub part : GrownBySome old.taken new.taken text
-  pub of : IsSearchTextBy hinted job budget text ⊎ ((exit : ℕ) × IsAnswerBy hinted job budget text exit)
+  pub of : IsSearchText hinted job budget text ⊎ ((exit : ℕ) × IsAnswer hinted job budget text exit)
 
-cut : (hinted : Bool) (job : List ℕ) (budget : ℕ) (old new : OutputOf) (text : List ℕ) → old.gathered ≡ [] → Breaks old new text → IsSearchTextBy hinted job budget text ⊎ ((exit : ℕ) × IsAnswerBy hinted job budget text exit) → Cut hinted job budget old new
+cut : (hinted : Bool) (job : List ℕ) (budget : ℕ) (old new : OutputOf) (text : List ℕ) → old.gathered ≡ [] → Breaks old new text → IsSearchText hinted job budget text ⊎ ((exit : ℕ) × IsAnswer hinted job budget text exit) → Cut hinted job budget old new
 cut hinted job budget old new text begun b of = record { rose = b.rose; later = b.later; text = text; part = subst (λ z. GrownBySome old.taken new.taken (z ++ text)) begun b.part; of = of }
 
 additions_push : (ls : List Line) (l : Line) → additions (ls ++ l ∷ []) ≤ additions ls + 1
@@ -118,80 +86,41 @@ additions_push (Deletion d ∷ ls) l = additions_push ls l
 one_more : {F : List (List LitOf)} (ls : List Line) (l : Line) (G H : List (List LitOf)) (n m d e budget : ℕ) → Logged F ls G n d → Logged F (ls ++ l ∷ []) H m e → n < budget → m ≤ budget
 one_more ls l G H n m d e budget a b h = let had = (logged_count a).0 in let has = (logged_count b).0 in let more = additions_push ls l in omega (arith, had, has, more, h)
 
--- the log failed at a line of the search
-log_cut : (job : List ℕ) (f : FormulaOf) (budget : ℕ) (old new : OutputOf) (proof : List Line) (present : List (List LitOf)) (count : ℕ) (line : Line) → IsDimacs job f → old.gathered ≡ [] → IsProof f proof present count → count < budget
-    → MayFollow f.clauses proof present line → IsProper f.vars (clause_of line) → Breaks old new (proof_text (proof ++ line ∷ [])) → Cut false job budget old new
-log_cut job f budget old new proof present count line d begun p h (inl m) proper b =
-    let lines = proof ++ line ∷ [] in
-    cut false job budget old new (proof_text lines) begun b (inl (record {
-      proof = lines;
-      count = m.1;
-      searched = record { formula = f; is_formula = d; present = m.0; deletions = m.2; logged = m.3; proper = All-push (λ l. IsProper f.vars (clause_of l)) proof line p.proper proper };
-      within = one_more proof line present m.0 count m.1 p.deletions m.2 budget p.logged m.3 h;
-      is = refl;
-    }))
-log_cut job f budget old new proof present count line d begun p h (inr m) proper b =
-    let lines = proof ++ line ∷ [] in
-    let text = proof_text lines ++ unsatisfiable_line in
-    let is : text ≡ proof_text (proof ++ Addition [] ∷ []) ++ unsatisfiable_line = ap (λ z. proof_text (proof ++ z ∷ []) ++ unsatisfiable_line) m.0 in
-    cut false job budget old new text begun (breaks_more old new (proof_text lines) unsatisfiable_line b) (inr (20, inl (refl, unsat_stream job f budget proof present count text d p h m.1 is)))
-
--- the text of the lines and of one more
-more_text : (ls : List LogLine) (l : LogLine) (m : Line) → plain (l ∷ []) ≡ m ∷ [] → log_text (ls ++ l ∷ []) ≡ proof_text (plain ls ++ m ∷ [])
-more_text ls l m e = plain_text (ls ++ l ∷ []) ∙ ap proof_text (plain_push ls l ∙ ap (λ z. plain ls ++ z) e)
-
-plain_cut : (job : List ℕ) (f : FormulaOf) (budget : ℕ) (old new : OutputOf) (ls : List LogLine) (present : List (List LitOf)) (count : ℕ) (held : HeldOf) (line : LogLine) → IsDimacs job f → old.gathered ≡ [] → IsLogged false f ls present count held → count < budget
-    → LineFollows f.clauses (plain ls) present line → IsProperLine f.vars line → Breaks old new (log_text (ls ++ line ∷ [])) → Cut false job budget old new
-plain_cut job f budget old new ls present count held (Adds c id hints) d begun p h m proper b =
-    log_cut job f budget old new (plain ls) present count (Addition c) d begun (plain_proof f ls present count held p) h m proper.0 (subst (Breaks old new) (more_text ls (Adds c id hints) (Addition c) refl) b)
-plain_cut job f budget old new ls present count held (Drops c id) d begun p h m proper b =
-    log_cut job f budget old new (plain ls) present count (Deletion c) d begun (plain_proof f ls present count held p) h m proper.0 (subst (Breaks old new) (more_text ls (Drops c id) (Deletion c) refl) b)
-plain_cut job f budget old new ls present count held (Notes l id hints) d begun p h m proper b =
-    cut false job budget old new (log_text (ls ++ Notes l id hints ∷ [])) begun b (inl (record {
-      proof = plain ls;
-      count = count;
-      searched = searched_of job f (plain ls) present count d (plain_proof f ls present count held p);
-      within = omega (arith, h);
-      is = plain_text (ls ++ Notes l id hints ∷ []) ∙ ap proof_text (plain_push ls (Notes l id hints) ∙ append-nil (plain ls));
-    }))
-
--- a hinted search with a line more
-more_searched : (job : List ℕ) (f : FormulaOf) (budget : ℕ) (ls : List LogLine) (present : List (List LitOf)) (count : ℕ) (held : HeldOf) (line : LogLine) (H : List (List LitOf)) (m e : ℕ) → IsDimacs job f → IsLogged true f ls present count held → IsProperLine f.vars line
-    → IsHintedLine held line → Logged f.clauses (plain (ls ++ line ∷ [])) H m e → m ≤ budget → IsHintedSearchText job budget (hinted_text (ls ++ line ∷ []))
-more_searched job f budget ls present count held line H m e d p proper by l h = record {
+-- a search with a line more
+more_searched : (hinted : Bool) (job : List ℕ) (f : FormulaOf) (budget : ℕ) (ls : List LogLine) (present : List (List LitOf)) (count : ℕ) (held : HeldOf) (line : LogLine) (H : List (List LitOf)) (m e : ℕ) → IsDimacs job f → IsLogged hinted f ls present count held → IsProperLine f.vars line
+    → (IsTrue hinted → IsHintedLine held line) → Logged f.clauses (plain (ls ++ line ∷ [])) H m e → m ≤ budget → IsSearchText hinted job budget (text_by hinted (ls ++ line ∷ []))
+more_searched hinted job f budget ls present count held line H m e d p proper by l h = record {
   lines = ls ++ line ∷ [];
   count = m;
   searched = record {
     formula = f;
     is_formula = d;
     present = H;
-    deletions = e;
-    logged = l;
-    proper = All-push (IsProperLine f.vars) ls line p.proper proper;
     held = held_after held line;
-    hinted = hinted_push (held_first f.clauses) held ls line (p.hints refl) by;
+    logged = record { deletions = e; logged = l; proper = All-push (IsProperLine f.vars) ls line p.proper proper; hints = λ t. hinted_push (held_first f.clauses) held ls line (p.hints t) (by t) };
   };
   within = h;
   is = refl;
 }
 
-hinted_cut : (job : List ℕ) (f : FormulaOf) (budget : ℕ) (old new : OutputOf) (ls : List LogLine) (present : List (List LitOf)) (count : ℕ) (held : HeldOf) (line : LogLine) → IsDimacs job f → old.gathered ≡ [] → IsLogged true f ls present count held → count < budget
-    → LineFollows f.clauses (plain ls) present line → IsProperLine f.vars line → IsHintedLine held line → Breaks old new (hinted_text (ls ++ line ∷ [])) → Cut true job budget old new
-hinted_cut job f budget old new ls present count held (Adds c id hints) d begun p h (inl m) proper by b =
-    cut true job budget old new (hinted_text (ls ++ Adds c id hints ∷ [])) begun b
-    (inl (more_searched job f budget ls present count held (Adds c id hints) m.0 m.1 m.2 d p proper by (subst (λ z. Logged f.clauses z m.0 m.1 m.2) (sym (plain_push ls (Adds c id hints))) m.3) (one_more (plain ls) (Addition c) present m.0 count m.1 p.deletions m.2 budget p.logged m.3 h)))
-hinted_cut job f budget old new ls present count held (Adds c id hints) d begun p h (inr m) proper by b =
+-- the log failed at a line of the search
+log_cut : (hinted : Bool) (job : List ℕ) (f : FormulaOf) (budget : ℕ) (old new : OutputOf) (ls : List LogLine) (present : List (List LitOf)) (count : ℕ) (held : HeldOf) (line : LogLine) → IsDimacs job f → old.gathered ≡ [] → IsLogged hinted f ls present count held → count < budget
+    → LineFollows f.clauses (plain ls) present line → IsProperLine f.vars line → (IsTrue hinted → IsHintedLine held line) → Breaks old new (text_by hinted (ls ++ line ∷ [])) → Cut hinted job budget old new
+log_cut hinted job f budget old new ls present count held (Adds c id hints) d begun p h (inl m) proper by b =
+    cut hinted job budget old new (text_by hinted (ls ++ Adds c id hints ∷ [])) begun b
+    (inl (more_searched hinted job f budget ls present count held (Adds c id hints) m.0 m.1 m.2 d p proper by (subst (λ z. Logged f.clauses z m.0 m.1 m.2) (sym (plain_push ls (Adds c id hints))) m.3) (one_more (plain ls) (Addition c) present m.0 count m.1 p.deletions m.2 budget p.logged m.3 h)))
+log_cut hinted job f budget old new ls present count held (Adds c id hints) d begun p h (inr m) proper by b =
     let none : c ≡ [] = (let e = m.0 in cc) in
-    let text = hinted_text (ls ++ Adds c id hints ∷ []) ++ unsatisfiable_line in
-    cut true job budget old new text begun (breaks_more old new (hinted_text (ls ++ Adds c id hints ∷ [])) unsatisfiable_line b)
-    (inr (20, inl (refl, hinted_unsat job f budget ls present count held id hints text d p h m.1 (subst (λ z. IsProperLine f.vars (Adds z id hints)) none proper) (subst (λ z. IsHintedLine held (Adds z id hints)) none by) (ap (λ z. hinted_text (ls ++ Adds z id hints ∷ []) ++ unsatisfiable_line) none))))
-hinted_cut job f budget old new ls present count held (Drops c id) d begun p h (inl m) proper by b =
-    cut true job budget old new (hinted_text (ls ++ Drops c id ∷ [])) begun b
-    (inl (more_searched job f budget ls present count held (Drops c id) m.0 m.1 m.2 d p proper by (subst (λ z. Logged f.clauses z m.0 m.1 m.2) (sym (plain_push ls (Drops c id))) m.3) (one_more (plain ls) (Deletion c) present m.0 count m.1 p.deletions m.2 budget p.logged m.3 h)))
-hinted_cut job f budget old new ls present count held (Drops c id) d begun p h (inr m) proper by b = absurd (let e = m.0 in cc)
-hinted_cut job f budget old new ls present count held (Notes l id hints) d begun p h m proper by b =
-    cut true job budget old new (hinted_text (ls ++ Notes l id hints ∷ [])) begun b
-    (inl (more_searched job f budget ls present count held (Notes l id hints) present count p.deletions d p proper by (subst (λ z. Logged f.clauses z present count p.deletions) (sym (plain_push ls (Notes l id hints) ∙ append-nil (plain ls))) p.logged) (omega (arith, h))))
+    let lines = text_by hinted (ls ++ Adds c id hints ∷ []) in
+    cut hinted job budget old new (lines ++ unsatisfiable_line) begun (breaks_more old new lines unsatisfiable_line b)
+    (inr (20, inl (refl, unsat_stream job f budget ls present count held d hinted id hints (lines ++ unsatisfiable_line) p h m.1 (subst (λ z. IsProperLine f.vars (Adds z id hints)) none proper) (λ t. subst (λ z. IsHintedLine held (Adds z id hints)) none (by t)) (ap (λ z. text_by hinted (ls ++ Adds z id hints ∷ []) ++ unsatisfiable_line) none))))
+log_cut hinted job f budget old new ls present count held (Drops c id) d begun p h (inl m) proper by b =
+    cut hinted job budget old new (text_by hinted (ls ++ Drops c id ∷ [])) begun b
+    (inl (more_searched hinted job f budget ls present count held (Drops c id) m.0 m.1 m.2 d p proper by (subst (λ z. Logged f.clauses z m.0 m.1 m.2) (sym (plain_push ls (Drops c id))) m.3) (one_more (plain ls) (Deletion c) present m.0 count m.1 p.deletions m.2 budget p.logged m.3 h)))
+log_cut hinted job f budget old new ls present count held (Drops c id) d begun p h (inr m) proper by b = absurd (let e = m.0 in cc)
+log_cut hinted job f budget old new ls present count held (Notes l id hints) d begun p h m proper by b =
+    cut hinted job budget old new (text_by hinted (ls ++ Notes l id hints ∷ [])) begun b
+    (inl (more_searched hinted job f budget ls present count held (Notes l id hints) present count p.deletions d p proper by (subst (λ z. Logged f.clauses z present count p.deletions) (sym (plain_push ls (Notes l id hints) ∙ append-nil (plain ls))) p.logged) (omega (arith, h))))
 
 -- the end of an answer failed
 end_cut : (hinted : Bool) (job : List ℕ) (f : FormulaOf) (budget : ℕ) (old mid new : OutputOf) (s : Solved) (text : List ℕ) (exit : ℕ) → IsDimacs job f → old.gathered ≡ [] → Searches hinted f budget old mid s → IsEnd f.vars s text exit → Breaks mid new text → Cut hinted job budget old new
@@ -208,20 +137,18 @@ answer_cut hinted job f budget old mid new s d begun h (inr e) = end_cut hinted 
 answer_cut hinted job f budget old mid new (Sat values) d begun h (inl e) = absurd (let k = e.0 in cc)
 answer_cut hinted job f budget old mid new Unsat d begun h (inl e) = absurd (let k = e.0 in cc)
 answer_cut hinted job f budget old mid new Budget d begun h (inl e) = absurd (let k = e.0 in cc)
-answer_cut false job f budget old mid new LogFailed d begun h (inl e) = plain_cut job f budget old new h.0 h.1 h.2 h.3 h.6 d begun h.4 h.5 h.7 h.8 (same_breaks old mid new (log_text (h.0 ++ h.6 ∷ [])) e.1 e.2 h.10)
-answer_cut true job f budget old mid new LogFailed d begun h (inl e) = hinted_cut job f budget old new h.0 h.1 h.2 h.3 h.6 d begun h.4 h.5 h.7 h.8 (h.9 refl) (same_breaks old mid new (hinted_text (h.0 ++ h.6 ∷ [])) e.1 e.2 h.10)
+answer_cut hinted job f budget old mid new LogFailed d begun h (inl e) = log_cut hinted job f budget old new h.0 h.1 h.2 h.3 h.6 d begun h.4 h.5 h.7 h.8 h.9 (same_breaks old mid new (text_by hinted (h.0 ++ h.6 ∷ [])) e.1 e.2 h.10)
 
 -- memory ran out, and a first part of the lines of a search was written
 pub record LeftOff (hinted : Bool) (job : List ℕ) (budget : ℕ) (old new : OutputOf) : Type 0 where
   pub still : new.faults ≡ old.faults
   pub text : List ℕ
   pub part : GrownByFirst old.taken new.taken text
-  pub of : IsSearchTextBy hinted job budget text
+  pub of : IsSearchText hinted job budget text
 
 -- the text of a search is one
-search_text : (hinted : Bool) (job : List ℕ) (f : FormulaOf) (budget : ℕ) (ls : List LogLine) (present : List (List LitOf)) (count : ℕ) (held : HeldOf) → IsDimacs job f → IsLogged hinted f ls present count held → count ≤ budget → IsSearchTextBy hinted job budget (text_by hinted ls)
-search_text false job f budget ls present count held d p h = record { proof = plain ls; count = count; searched = searched_of job f (plain ls) present count d (plain_proof f ls present count held p); within = h; is = plain_text ls }
-search_text true job f budget ls present count held d p h = record { lines = ls; count = count; searched = hinted_of job f ls present count held d p; within = h; is = refl }
+search_text : (hinted : Bool) (job : List ℕ) (f : FormulaOf) (budget : ℕ) (ls : List LogLine) (present : List (List LitOf)) (count : ℕ) (held : HeldOf) → IsDimacs job f → IsLogged hinted f ls present count held → count ≤ budget → IsSearchText hinted job budget (text_by hinted ls)
+search_text hinted job f budget ls present count held d p h = record { lines = ls; count = count; searched = record { formula = f; is_formula = d; present = present; held = held; logged = p }; within = h; is = refl }
 
 pub search_left : (hinted : Bool) (job : List ℕ) (f : FormulaOf) (budget : ℕ) (old new : OutputOf) → IsDimacs job f → old.gathered ≡ [] → Stops hinted f budget old new → LeftOff hinted job budget old new
 search_left hinted job f budget old new d begun s =
@@ -236,9 +163,9 @@ search_left hinted job f budget old new d begun s =
     }
 
 -- the lines of a search that wasn't begun
-pub none_searched : (hinted : Bool) (job : List ℕ) (f : FormulaOf) (budget : ℕ) → IsDimacs job f → IsSearchTextBy hinted job budget []
-none_searched false job f budget d = search_text false job f budget [] f.clauses 0 (held_first f.clauses) d (record { deletions = 0; logged = none; proper = All-nil (IsProperLine f.vars); hints = λ h. refl }) (omega arith)
-none_searched true job f budget d = search_text true job f budget [] f.clauses 0 (held_first f.clauses) d (record { deletions = 0; logged = none; proper = All-nil (IsProperLine f.vars); hints = λ h. refl }) (omega arith)
+pub none_searched : (hinted : Bool) (job : List ℕ) (f : FormulaOf) (budget : ℕ) → IsDimacs job f → IsSearchText hinted job budget []
+none_searched hinted job f budget d =
+    subst (IsSearchText hinted job budget) (text_none hinted) (search_text hinted job f budget [] f.clauses 0 (held_first f.clauses) d (record { deletions = 0; logged = none; proper = All-nil (IsProperLine f.vars); hints = λ h. refl }) (omega arith))
 
 -- no call of a search lowers the count of faults
 pub searches_later : (hinted : Bool) (f : FormulaOf) (budget : ℕ) (old new : OutputOf) (s : Solved) → Searches hinted f budget old new s → old.faults ≤ new.faults
@@ -264,7 +191,7 @@ cut_faults hinted f budget vars old mid new LogFailed h (inl e) = let b = h.10 i
 
 -- a whole answer is a whole stream
 pub stream_answered : (hinted : Bool) (job : List ℕ) (f : FormulaOf) (budget : ℕ) (r : Result ℕ Fail) (before now : Option (List ℕ)) → IsDimacs job f
-    → IfOk r (λ exit. (job : List ℕ) → IsDimacs job f → Streamed before now (λ stream. IsAnswerBy hinted job budget stream exit)) → OnOk r (Streamed before now (IsStream hinted budget job))
+    → IfOk r (λ exit. (job : List ℕ) → IsDimacs job f → Streamed before now (λ stream. IsAnswer hinted job budget stream exit)) → OnOk r (Streamed before now (IsStream hinted budget job))
 stream_answered hinted job f budget (Ok exit) before now d h = let w = h job d in (w.0, inr (exit, w.1), w.2)
 stream_answered hinted job f budget (Err e) before now d h = tt
 

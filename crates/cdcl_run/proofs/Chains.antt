@@ -24,7 +24,7 @@ text_cons : (hinted : Bool) (l : LogLine) (ls : List LogLine) → text_by hinted
 text_cons false l ls = refl
 text_cons true l ls = refl
 
-text_none : (hinted : Bool) → text_by hinted [] ≡ []
+pub text_none : (hinted : Bool) → text_by hinted [] ≡ []
 text_none false = refl
 text_none true = refl
 

@@ -5,7 +5,7 @@ use Rattle.std.proofs.lemmas.List.{take_more, take_all, take-append-drop}
 use Rattle.cnf_form.specs.Cnf.{LitOf}
 use Rattle.cnf_form.specs.Dimacs.{literal_text}
 use Rattle.cdcl_run.specs.HintedText.{addition_text, ids_text, literals_text}
-use Rattle.cdcl_run.proofs.Clauses.{words_text, words_more}
+use Rattle.cdcl_run.specs.Text.{words_text}
 
 -- ids, each with a space after it
 abbrev pub ids_words : List ℕ → List ℕ
@@ -34,11 +34,8 @@ literals_both : (c d : List LitOf) → literals_text (c ++ d) ≡ words_text c +
 literals_both [] d = refl
 literals_both (l ∷ c) d = ap (λ z. literal_text l ++ 32 ∷ z) (literals_both c d) ∙ sym (append_assoc (literal_text l) (32 ∷ words_text c) (literals_text d))
 
-pub literals_then : (c : List LitOf) (i : ℕ) (l : LitOf) → i < length c → (words_text (take i c) ++ (literal_text (get_or c i l) ++ 32 ∷ [])) ++ literals_text (drop (i + 1) c) ≡ literals_text c
-literals_then c i l h = ap (λ z. z ++ literals_text (drop (i + 1) c)) (words_more c i l h) ∙ sym (literals_both (take (i + 1) c) (drop (i + 1) c)) ∙ ap literals_text (take-append-drop (i + 1) c)
-
-pub literals_end : (c : List LitOf) (i : ℕ) → length c ≤ i → words_text (take i c) ++ (48 ∷ 32 ∷ []) ≡ literals_text c
-literals_end c i h = ap (λ z. words_text z ++ (48 ∷ 32 ∷ [])) (take_all i c h) ∙ sym (literals_both c []) ∙ ap literals_text (append-nil c)
+pub literals_end : (c : List LitOf) → words_text c ++ (48 ∷ 32 ∷ []) ≡ literals_text c
+literals_end c = sym (literals_both c []) ∙ ap literals_text (append-nil c)
 
 -- the parts of a line
 pub addition_parts : (c : List LitOf) (id : ℕ) (hints : List ℕ) → (decimal id ++ 32 ∷ []) ++ (literals_text c ++ ids_text hints) ≡ addition_text c id hints

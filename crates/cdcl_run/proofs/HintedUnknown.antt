@@ -36,7 +36,7 @@ use Rattle.cert_judge.proofs.DrupLines.{done_all, line_texts, texts}
 use Rattle.cert_judge.proofs.LratCerts.{without_ids}
 use Rattle.cdcl_core.specs.Lines.{LogLine, Adds, Notes, Drops, AreHinted, AreProperLines, HeldOf, IsHintedAs, IsProperLine, held_after, held_first}
 use Rattle.cdcl_core.specs.Logged.{IsProper}
-use Rattle.cdcl_run.specs.HintedAnswer.{IsHintedUnknownStream}
+use Rattle.cdcl_run.specs.Answer.{IsUnknownStream}
 use Rattle.cdcl_run.specs.HintedText.{hinted_text}
 use Rattle.cdcl_run.specs.Text.{unknown_line}
 use Rattle.cdcl_run.proofs.HintedProofs.{AreFilled, AreIdsIn, IsBounded, addition_words, as_held, bounded_after, bounded_first, drop_words, filled, hinted_lines, hinted_words, hints_in, id_read, one_filled}
@@ -288,7 +288,7 @@ module _ (vars : ℕ) (small : vars < 2 ^ 64) (C : List (List LitOf)) where
       let rest = lines_come (at + length t + 1) after k ls (u ∷ ts) r w (bounded_after vars small h (Drops c id) b by) (All-tail (IsProperLine vars) (Drops c id) ls p) n in
       deletion_line at t u ts h c id q b own.1 by rest
 
-pub hinted_unknown_fate : (job stream : List ℕ) (budget most : ℕ) → IsHintedUnknownStream job budget stream → length stream ≤ most → IsFate Lrat job stream most Unknown
+pub hinted_unknown_fate : (job stream : List ℕ) (budget most : ℕ) → IsUnknownStream true job budget stream → length stream ≤ most → IsFate Lrat job stream most Unknown
 hinted_unknown_fate job stream budget most w l =
     let s = w.searched in
     let f = s.formula in
@@ -296,6 +296,6 @@ hinted_unknown_fate job stream budget most w l =
     let small : f.vars < 2 ^ 64 = (let h = d.limit in omega (arith, h)) in
     let first = held_first f.clauses in
     let b = bounded_first f.clauses in
-    let read = hinted_lines f.vars small first s.held w.lines unknown_line s.hinted b s.proper in
-    let c = lines_come f.vars small f.clauses 0 first s.held w.lines (lines_of (hinted_text w.lines ++ unknown_line)) read s.hinted b s.proper (filled w.lines (logged_full s.logged)) in
+    let read = hinted_lines f.vars small first s.held w.lines unknown_line (s.logged.hints refl) b s.logged.proper in
+    let c = lines_come f.vars small f.clauses 0 first s.held w.lines (lines_of (hinted_text w.lines ++ unknown_line)) read (s.logged.hints refl) b s.logged.proper (filled w.lines (logged_full s.logged.logged)) in
     (f, d, record { within = λ h. inl (subst (λ z. SayingsFate f.clauses (as_held first) unnamed (lines_say f.vars true false 0 (lines_of z)) (Some Unknown)) (sym w.is) c); beyond = λ b. absurd (omega (arith, b, l)) })

@@ -10,7 +10,8 @@ pub mod Sat
 pub mod Plain
 pub mod HintedClauses
 pub mod HintedProofs
-pub mod HintedStreams
+pub mod HintedCerts
+pub mod Streams
 pub mod Fitted
 pub mod Answering
 pub mod Contents

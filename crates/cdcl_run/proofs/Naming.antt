@@ -10,9 +10,8 @@ use Rattle.cert_stream.specs.Text.{NoFeed, lines_of, put_first}
 use Rattle.cdcl_core.specs.Solving.{valued}
 use Rattle.cert_judge.specs.DrupCert.{Names, lines, named_by, words}
 use Rattle.cert_judge.specs.Values.{named, named_from, unnamed}
-use Rattle.cdcl_run.specs.Answer.{literals_from}
 use Rattle.cdcl_run.specs.Searching.{values_to}
-use Rattle.cdcl_run.specs.Text.{spaced, value_line, last_value_line}
+use Rattle.cdcl_run.specs.Text.{last_value_line, literals_from, spaced, value_line}
 use Rattle.cdcl_run.proofs.Proofs.{line_first}
 use Rattle.cdcl_run.proofs.Words.{AreIn, IsWord, ended_texts, in_split, no_feed_append, spaced_ended, spaced_feed, spaced_words, writes_texts}
 

@@ -9,8 +9,7 @@ use Rattle.cnf_form.specs.Reading.{IsFault}
 use Rattle.cnf_form.specs.declared.reader.DimacsFaultKind.{DimacsFaultKind}
 use Rattle.sby_edge.specs.Files.{Store}
 use Rattle.cdcl_words.specs.Asking.{Asks, AsksPlainly}
-use Rattle.cdcl_run.specs.Answer.{budget_of}
-use Rattle.cdcl_run.specs.HintedAnswer.{IsAnswerBy}
+use Rattle.cdcl_run.specs.Answer.{IsAnswer, budget_of}
 use Rattle.cdcl_run.specs.Output.{grown}
 use Rattle.cdcl_run.specs.Run.{Answers, Did, IsContent, IsCutShort, IsDone, IsLeftOff, IsOutOfMemory, IsUngot, World}
 use Rattle.cdcl_run.proofs.Answering.{none_searched}
@@ -92,17 +91,14 @@ module _ (decided : (bytes : List ℕ) (f : FormulaOf) (kind : DimacsFaultKind) 
           done h c file has (subst (λ z. IsDone before after h c z exit) s.2 (subst (λ z. IsDone before after h z w.2 exit) s.1 (subst (λ z. IsDone before after z w.1 w.2 exit) s.0 w.4)))
     ]
 
-  exit_of : (hinted : Bool) (job : List ℕ) (budget : ℕ) (stream : List ℕ) (exit : ℕ) → IsAnswerBy hinted job budget stream exit → (exit ≢ 1) × (exit ≢ 32)
-  exit_of false job budget stream exit (inl w) = (λ e. omega (arith, w.0, e), λ e. omega (arith, w.0, e))
-  exit_of false job budget stream exit (inr (inl w)) = (λ e. omega (arith, w.0, e), λ e. omega (arith, w.0, e))
-  exit_of false job budget stream exit (inr (inr w)) = (λ e. omega (arith, w.0, e), λ e. omega (arith, w.0, e))
-  exit_of true job budget stream exit (inl w) = (λ e. omega (arith, w.0, e), λ e. omega (arith, w.0, e))
-  exit_of true job budget stream exit (inr (inl w)) = (λ e. omega (arith, w.0, e), λ e. omega (arith, w.0, e))
-  exit_of true job budget stream exit (inr (inr w)) = (λ e. omega (arith, w.0, e), λ e. omega (arith, w.0, e))
+  exit_of : (hinted : Bool) (job : List ℕ) (budget : ℕ) (stream : List ℕ) (exit : ℕ) → IsAnswer hinted job budget stream exit → (exit ≢ 1) × (exit ≢ 32)
+  exit_of hinted job budget stream exit (inl w) = (λ e. omega (arith, w.0, e), λ e. omega (arith, w.0, e))
+  exit_of hinted job budget stream exit (inr (inl w)) = (λ e. omega (arith, w.0, e), λ e. omega (arith, w.0, e))
+  exit_of hinted job budget stream exit (inr (inr w)) = (λ e. omega (arith, w.0, e), λ e. omega (arith, w.0, e))
 
   pub kept : (before after : World) (words : List (List ℕ)) (exit : ℕ) (hinted : Bool) (conflicts : Option ℕ) (file job : List ℕ) (store : Store) (f : FormulaOf) → Did before after words exit → Asks words hinted conflicts file → before.told ≡ Some store
       → store file ≡ Some job → length job ≤ 2 ^ 32 → IsDimacs job f → exit ≢ 1 → exit ≢ 32
-      → (stream : List ℕ) × (after.taken ≡ grown before.taken stream) × IsAnswerBy hinted job (budget_of conflicts) stream exit
+      → (stream : List ℕ) × (after.taken ≡ grown before.taken stream) × IsAnswer hinted job (budget_of conflicts) stream exit
   unfolding Comes
   kept before after words exit h c file job store f d a told has short is n1 n32 = elim (did before after exit job store f told short is words h c file d a has) [
     | inl w ↦ absurd (n32 w.exit_is)

@@ -2,8 +2,8 @@
 use Rattle.std.proofs.Common.{◌≡◌, ◌≢◌, ℕ, ◌<◌, ◌^◌, List, [], ◌∷◌, ◌++◌, refl, ap, ◌∙◌, sym, subst, inl, inr, append_assoc}
 use Rattle.std.specs.Prelude.{codes, map, Contains}
 use Rattle.std.proofs.lemmas.List.Elements.{All-nil, All-cons, All-head, All-tail}
-use Rattle.cnf_form.specs.Cnf.{LitOf, FormulaOf, Line, Addition, Deletion, Drup, IsAdmitted, Satisfies, Assignment}
-use Rattle.cnf_form.specs.Dimacs.{IsDimacs, literal_text}
+use Rattle.cnf_form.specs.Cnf.{LitOf, Line, Addition, Deletion, Drup, IsAdmitted, Satisfies, Assignment}
+use Rattle.cnf_form.specs.Dimacs.{literal_text}
 use Rattle.cnf_form.proofs.Members.{Contains-empty}
 use Rattle.cnf_form.proofs.Removal.{Deletes-within}
 use Rattle.cnf_form.proofs.Rup.{Admitted-true, Satisfies-push}
@@ -11,8 +11,6 @@ use Rattle.cert_stream.specs.Text.{NoFeed}
 use Rattle.cert_stream.proofs.Apart.{fed_lines}
 use Rattle.cert_judge.specs.DrupCert.{Leads, lines, words}
 use Rattle.cdcl_core.specs.Logged.{Logged, none, added, deleted, AreProper, IsProper, clause_of}
-use Rattle.cdcl_run.specs.Answer.{IsSearched}
-use Rattle.cdcl_run.specs.Searching.{IsProof}
 use Rattle.cdcl_run.specs.Text.{proof_line, proof_text}
 use Rattle.cdcl_run.proofs.Words.{IsWord, bare, bare_words, bare_feed, bare_line, ended_texts, in_of, words_then}
 
@@ -141,7 +139,3 @@ up_to (Deletion c ∷ ls) F G vars d a p =
 pub proof_text_append : (ls ms : List Line) → proof_text (ls ++ ms) ≡ proof_text ls ++ proof_text ms
 proof_text_append [] ms = refl
 proof_text_append (l ∷ ls) ms = ap (λ z. proof_line l ++ z) (proof_text_append ls ms) ∙ sym (append_assoc (proof_line l) (proof_text ls) (proof_text ms))
-
--- the lines of a search, of the formula of a job
-abbrev pub searched_of : (job : List ℕ) (f : FormulaOf) (ls : List Line) (G : List (List LitOf)) (n : ℕ) → IsDimacs job f → IsProof f ls G n → IsSearched job ls n
-searched_of job f ls G n d p = record { formula = f; is_formula = d; present = G; deletions = p.deletions; logged = p.logged; proper = p.proper }

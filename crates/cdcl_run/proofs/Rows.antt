@@ -10,10 +10,9 @@ use Rattle.std.proofs.lemmas.List.FromFn.{length-map-range_with_len, map-range_w
 use Rattle.cnf_form.specs.Cnf.{LitOf}
 use Rattle.cnf_form.specs.Dimacs.{literal_text}
 use Rattle.cdcl_core.specs.Solving.{valued}
-use Rattle.cdcl_run.specs.Answer.{literals_from}
 use Rattle.cdcl_run.specs.Output.{Breaks, OutputOf, Puts}
 use Rattle.cdcl_run.specs.Searching.{values_to}
-use Rattle.cdcl_run.specs.Text.{AreValueLines, spaced, value_line, break_text}
+use Rattle.cdcl_run.specs.Text.{AreValueLines, break_text, literals_from, spaced, value_line}
 use Rattle.cdcl_run.proofs.Putting.{breaks_more, puts_both, puts_breaks}
 
 abbrev pub IsTen : List LitOf → Type 0

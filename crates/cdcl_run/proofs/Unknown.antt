@@ -19,10 +19,12 @@ use Rattle.cert_judge.specs.Fate.{Unknown}
 use Rattle.cert_judge.specs.Kinds.{IsFate}
 use Rattle.cert_judge.specs.declared.stream.StreamKind.TheVariants.{Drup as DrupKind}
 use Rattle.cert_judge.proofs.DrupLines.{texts, line_texts, done_all, ends_at, done_last, writes_read}
+use Rattle.cdcl_core.specs.Lines.{plain}
 use Rattle.cdcl_core.specs.Logged.{AreProper, IsProper, clause_of}
 use Rattle.cdcl_core.proofs.Solutions.{logged_drup}
 use Rattle.cdcl_run.specs.Answer.{IsUnknownStream}
 use Rattle.cdcl_run.specs.Text.{proof_line, proof_text, unknown_line}
+use Rattle.cdcl_run.proofs.Plain.{plain_proper, plain_text}
 use Rattle.cdcl_run.proofs.Proofs.{AreFull, logged_full}
 use Rattle.cdcl_run.proofs.Words.{IsWord, bare, bare_words, bare_feed, bare_line, ended_texts, in_of, words_then}
 
@@ -112,11 +114,11 @@ module _ (vars : ℕ) (small : vars < 2 ^ 64) (C : List (List LitOf)) where
       subst (λ z. Comes F (lines_say vars true false at (lines_of z))) (sym (append_assoc (proof_line (Deletion c)) (proof_text ls) unknown_line ∙ ap (λ z. 100 ∷ 32 ∷ z) (bare_line vars small c s)))
       (first_line at F t s w.0 w.1 (refl, (refl, bare_feed vars small c i)) w.2 (subst (Comes F) (sym said) (d.0, d.1, k)))
 
-pub unknown_fate : (job stream : List ℕ) (budget most : ℕ) → IsUnknownStream job budget stream → length stream ≤ most → IsFate DrupKind job stream most Unknown
+pub unknown_fate : (job stream : List ℕ) (budget most : ℕ) → IsUnknownStream false job budget stream → length stream ≤ most → IsFate DrupKind job stream most Unknown
 unknown_fate job stream budget most w l =
     let s = w.searched in
     let f = s.formula in
     let d = s.is_formula in
     let small : f.vars < 2 ^ 64 = (let h = d.limit in omega (arith, h)) in
-    let c = lines_come f.vars small f.clauses 0 w.proof f.clauses s.present (logged_drup s.logged) s.proper (logged_full s.logged) in
-    (f, d, record { within = λ h. inl (subst (λ z. SayingsFate f.clauses f.clauses unnamed (lines_say f.vars true false 0 (lines_of z)) (Some Unknown)) (sym w.is) c); beyond = λ b. absurd (omega (arith, b, l)) })
+    let c = lines_come f.vars small f.clauses 0 (plain w.lines) f.clauses s.present (logged_drup s.logged.logged) (plain_proper f.vars w.lines s.logged.proper) (logged_full s.logged.logged) in
+    (f, d, record { within = λ h. inl (subst (λ z. SayingsFate f.clauses f.clauses unnamed (lines_say f.vars true false 0 (lines_of z)) (Some Unknown)) (sym (w.is ∙ ap (λ z. z ++ unknown_line) (plain_text w.lines))) c); beyond = λ b. absurd (omega (arith, b, l)) })

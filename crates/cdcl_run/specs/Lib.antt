@@ -5,6 +5,5 @@ pub mod Answer
 pub mod Run
 pub mod Searching
 pub mod HintedText
-pub mod HintedAnswer
 pub mod Stream
 pub mod Serving

@@ -9,8 +9,7 @@ use Rattle.sby_edge.specs.Files.{Store}
 use Rattle.cdcl_words.specs.Asking.{Asks}
 use Rattle.cdcl_run.specs.Output.{GrownByFirst, GrownBySome, grown}
 use Rattle.cdcl_run.specs.Text.{usage_line, file_line, long_line, fault_line}
-use Rattle.cdcl_run.specs.Answer.{budget_of}
-use Rattle.cdcl_run.specs.HintedAnswer.{IsAnswerBy, IsSearchTextBy}
+use Rattle.cdcl_run.specs.Answer.{IsAnswer, IsSearchText, budget_of}
 
 -- What the file store and the sink tell, and how often each failed.
 pub record World : Type 0 where
@@ -45,19 +44,19 @@ IsContent told file bytes = IfSome told (λ store. store file ≡ Some bytes)
 -- an answer for a formula was written whole
 abbrev pub IsWhole : Bool → World → World → List ℕ → ℕ → ℕ → Type 0
 IsWhole hinted before after bytes budget exit =
-    (stream : List ℕ) × (after.taken ≡ grown before.taken stream) × (after.sink_faults ≡ before.sink_faults) × IsAnswerBy hinted bytes budget stream exit
+    (stream : List ℕ) × (after.taken ≡ grown before.taken stream) × (after.sink_faults ≡ before.sink_faults) × IsAnswer hinted bytes budget stream exit
 
 -- A call of the sink failed, and what was written is a first part of the lines of a search within the budget, or of an answer. At
 -- least one byte is missing.
 abbrev pub IsCutShort : Bool → World → World → List ℕ → ℕ → Type 0
 IsCutShort hinted before after bytes budget =
     Rose before.sink_faults after.sink_faults
-    × ((text : List ℕ) × GrownBySome before.taken after.taken text × (IsSearchTextBy hinted bytes budget text ⊎ ((exit : ℕ) × IsAnswerBy hinted bytes budget text exit)))
+    × ((text : List ℕ) × GrownBySome before.taken after.taken text × (IsSearchText hinted bytes budget text ⊎ ((exit : ℕ) × IsAnswer hinted bytes budget text exit)))
 
 -- memory ran out, and what was written is a first part of the lines of a search within the budget
 abbrev pub IsLeftOff : Bool → World → World → List ℕ → ℕ → Type 0
 IsLeftOff hinted before after bytes budget =
-    (after.sink_faults ≡ before.sink_faults) × ((text : List ℕ) × GrownByFirst before.taken after.taken text × IsSearchTextBy hinted bytes budget text)
+    (after.sink_faults ≡ before.sink_faults) × ((text : List ℕ) × GrownByFirst before.taken after.taken text × IsSearchText hinted bytes budget text)
 
 -- an answer for a formula, whole or cut short; or memory ran out
 abbrev pub Answers : Bool → World → World → List ℕ → ℕ → ℕ → Type 0

@@ -7,10 +7,9 @@ use Rattle.cdcl_core.specs.Lines.{LogLine, Adds, plain, AreProperLines, IsProper
 use Rattle.cdcl_core.specs.Solving.{valued}
 use Rattle.cdcl_core.specs.declared.solver.Solved.{Solved}
 use Rattle.cdcl_core.specs.declared.solver.Solved.TheVariants.{Sat, Unsat, Budget, LogFailed}
-use Rattle.cdcl_run.specs.Answer.{literals_from}
 use Rattle.cdcl_run.specs.Output.{OutputOf, Puts, Breaks}
 use Rattle.cdcl_run.specs.HintedText.{hinted_line, hinted_text}
-use Rattle.cdcl_run.specs.Text.{log_line, log_text, satisfiable_line, unsatisfiable_line, unknown_line, AreValueLines}
+use Rattle.cdcl_run.specs.Text.{AreValueLines, literals_from, log_line, log_text, satisfiable_line, unknown_line, unsatisfiable_line}
 
 -- The formula that is searched for one that was read: the same clauses, over no more variables.
 pub record IsFitted (read searched : FormulaOf) : Type 0 where

@@ -4,14 +4,14 @@ use Rattle.cnf_form.specs.Reading.{IsFault}
 use Rattle.cnf_form.specs.declared.reader.DimacsFaultKind.{DimacsFaultKind}
 use Rattle.sby_edge.specs.declared.outside.Fail.{Fail}
 use Rattle.sby_edge.specs.declared.outside.Fail.TheVariants.{Failed, Memory}
-use Rattle.cdcl_run.specs.HintedAnswer.{IsAnswerBy}
+use Rattle.cdcl_run.specs.Answer.{IsAnswer}
 use Rattle.cdcl_run.specs.Text.{fault_line}
 
 -- the whole stream for the bytes of a file within a budget: the line of their fault, or an answer
 abbrev pub IsStream : Bool → ℕ → List ℕ → List ℕ → Type 0
 IsStream hinted budget bytes stream =
     ((kind : DimacsFaultKind) × (byte : ℕ) × IsFault bytes kind byte × (stream ≡ fault_line kind byte))
-    ⊎ ((exit : ℕ) × IsAnswerBy hinted bytes budget stream exit)
+    ⊎ ((exit : ℕ) × IsAnswer hinted bytes budget stream exit)
 
 -- the exit status: that of a whole stream, 1 where a call failed, and 32 at out of memory
 abbrev pub exit_of : Result ℕ Fail → ℕ

@@ -1,5 +1,5 @@
 -- The lines of the engine's stream.
-use Rattle.std.specs.Prelude.{◌≡◌, ◌≢◌, ℕ, ◌<◌, ◌≤◌, ◌%◌, ◌==◌, ◌&&◌, nat_lt, if◌then◌else◌, List, [], ◌∷◌, ◌++◌, length, flat_map, codes, decimal, All}
+use Rattle.std.specs.Prelude.{◌≡◌, ◌≢◌, ℕ, ◌+◌, ◌<◌, ◌≤◌, Bool, not, ◌%◌, ◌==◌, ◌&&◌, nat_lt, if◌then◌else◌, List, [], ◌∷◌, ◌++◌, length, flat_map, codes, decimal, All}
 use Rattle.cnf_form.specs.Cnf.{LitOf, Line, Addition, Deletion}
 use Rattle.cnf_form.specs.Dimacs.{literal_text, clause_text}
 use Rattle.cdcl_core.specs.Lines.{LogLine, Adds, Notes, Drops}
@@ -9,6 +9,11 @@ use Rattle.cnf_form.specs.declared.reader.DimacsFaultKind.TheVariants.{Header, L
 -- a text and the line feed after it
 abbrev pub line : List ℕ → List ℕ
 line text = text ++ 10 ∷ []
+
+-- literals, each with a space after it
+abbrev pub words_text : List LitOf → List ℕ
+words_text [] = []
+words_text (l ∷ c) = literal_text l ++ 32 ∷ words_text c
 
 -- a line of a proof: the literals, each with a space after it, and 0; a deletion has a d and a space before them
 abbrev pub proof_line : Line → List ℕ
@@ -32,6 +37,11 @@ log_text (l ∷ ls) = log_line l ++ log_text ls
 -- the sign of a literal
 abbrev pub sign_text : LitOf → List ℕ
 sign_text l = if l.negated then codes "-" else []
+
+-- the literal of each variable from one on that is true, in order
+abbrev pub literals_from : ℕ → List Bool → List LitOf
+literals_from v [] = []
+literals_from v (b ∷ bs) = record { var = v; negated = not b } ∷ literals_from (v + 1) bs
 
 -- literals, each with a space before it
 abbrev pub spaced : List LitOf → List ℕ

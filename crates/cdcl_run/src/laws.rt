@@ -1,14 +1,13 @@
 // What a call promises.
 
-ghost use Rattle.std.specs.Prelude.{◌≡◌, ◌≢◌, ◌⊎◌, ◌+◌, ◌≤◌, ◌^◌, ◌++◌, ℕ, Bool, List, All, Option, Some, length, map, option_map};
+ghost use Rattle.std.specs.Prelude.{◌≡◌, ◌≢◌, ◌⊎◌, ◌+◌, ◌≤◌, ◌^◌, ◌++◌, ℕ, Bool, true, false, List, All, Option, Some, length, map, option_map};
 ghost use Rattle.cnf_form.specs.Cnf.{FormulaOf};
 ghost use Rattle.cnf_form.specs.Dimacs.{IsDimacs};
 ghost use Rattle.cdcl_words.specs.Asking.{Asks, AsksToServe};
 ghost use Rattle.sby_edge.specs.Cause.{greatest};
 ghost use Rattle.sby_edge.specs.Files.{Store};
 ghost use Rattle.net_serve.specs.declared.serving.Served.TheVariants as served;
-ghost use Rattle.cdcl_run.specs.Answer.{IsUnknownStream, budget_of};
-ghost use Rattle.cdcl_run.specs.HintedAnswer.{IsAnswerBy, IsHintedUnknownStream};
+ghost use Rattle.cdcl_run.specs.Answer.{IsAnswer, IsUnknownStream, budget_of};
 ghost use Rattle.cert_judge.specs.Fate.{Unknown};
 ghost use Rattle.cert_judge.specs.Kinds.{IsFate};
 ghost use Rattle.cert_judge.specs.declared.stream.StreamKind.TheVariants.{Drup, Lrat};
@@ -20,8 +19,8 @@ use cnf_form::dimacs_faults_are_decided;
 
 /// A stream that says that it doesn't know, with hints or without, all of whose bytes are taken, has no other result: its fate is Unknown.
 pub fn unknown_streams_are_unknown()
-    ensures plain { (job stream : List ℕ) (budget most : ℕ) → IsUnknownStream job budget stream → length stream ≤ most → IsFate Drup job stream most Unknown }
-    ensures hinted { (job stream : List ℕ) (budget most : ℕ) → IsHintedUnknownStream job budget stream → length stream ≤ most → IsFate Lrat job stream most Unknown }
+    ensures plain { (job stream : List ℕ) (budget most : ℕ) → IsUnknownStream false job budget stream → length stream ≤ most → IsFate Drup job stream most Unknown }
+    ensures hinted { (job stream : List ℕ) (budget most : ℕ) → IsUnknownStream true job budget stream → length stream ≤ most → IsFate Lrat job stream most Unknown }
 {}
 
 /// Where a store tells a file of at most 2^32 bytes that is a formula, and words ask for it, a call of `run_engine` writes a
@@ -33,7 +32,7 @@ pub fn promise_is_kept()
     ensures answer { (before after : World) (words : List (List ℕ)) (exit : ℕ) (hinted : Bool) (conflicts : Option ℕ) (file job : List ℕ) (store : Store) (f : FormulaOf)
         → Did before after words exit → Asks words hinted conflicts file → before.told ≡ Some store → store file ≡ Some job → length job ≤ 2 ^ 32 → IsDimacs job f
         → exit ≢ 1 → exit ≢ 32
-        → (stream : List ℕ) × (after.taken ≡ grown before.taken stream) × IsAnswerBy hinted job (budget_of conflicts) stream exit }
+        → (stream : List ℕ) × (after.taken ≡ grown before.taken stream) × IsAnswer hinted job (budget_of conflicts) stream exit }
     ensures failed { (before after : World) (words : List (List ℕ)) (exit : ℕ) (hinted : Bool) (conflicts : Option ℕ) (file job : List ℕ) (store : Store) (f : FormulaOf)
         → Did before after words exit → Asks words hinted conflicts file → before.told ≡ Some store → store file ≡ Some job → length job ≤ 2 ^ 32 → IsDimacs job f
         → exit ≡ 1 → IsCutShort hinted before after job (budget_of conflicts) ⊎ IsUngot before after exit }

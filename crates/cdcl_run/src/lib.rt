@@ -4,6 +4,7 @@
 mod fitting;
 mod hinted;
 mod laws;
+mod log;
 mod output;
 mod piece;
 mod proof;

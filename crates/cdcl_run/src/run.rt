@@ -8,8 +8,7 @@ ghost use Rattle.cdcl_core.specs.declared.solver.Solved.TheVariants.{LogFailed};
 ghost use Rattle.sby_edge.specs.Cause.{Rose};
 ghost use Rattle.sby_edge.specs.declared.outside.Fail.TheVariants as fail;
 ghost use Rattle.net_answer.specs.Written.{Wrote};
-ghost use Rattle.cdcl_run.specs.Answer.{budget_of};
-ghost use Rattle.cdcl_run.specs.HintedAnswer.{IsAnswerBy};
+ghost use Rattle.cdcl_run.specs.Answer.{IsAnswer, budget_of};
 ghost use Rattle.cdcl_run.specs.Searching.{EndBreaks, IsEnd, Searches, Stops};
 ghost use Rattle.cdcl_run.specs.Output.{Puts, grown};
 ghost use Rattle.cdcl_run.specs.Run.{Answers, Did, IsDone, IsOutOfMemory, IsServed, World, Writes};
@@ -18,10 +17,9 @@ ghost use Rattle.cdcl_run.specs.Stream.{IsStream, exit_of};
 ghost use Rattle.cdcl_run.specs.Text.{fault_line, file_line, kind_text, long_line, usage_line};
 
 use crate::fitting::fitted;
-use crate::hinted::search_hinted;
+use crate::log::search;
 use crate::output::{flush, offer, put};
 use crate::piece::Piece;
-use crate::proof::search;
 use crate::serving::serve_all;
 use crate::values::put_values;
 use cdcl_core::Solved;
@@ -140,9 +138,9 @@ fn search_by<S: Sink>(
 {
     let searched = fitted(formula);
     if hinted {
-        search_hinted(alloc, &searched, budget, sink, piece)
+        search::<S, true>(alloc, &searched, budget, sink, piece)
     } else {
-        search(alloc, &searched, budget, sink, piece)
+        search::<S, false>(alloc, &searched, budget, sink, piece)
     }
 }
 
@@ -157,7 +155,7 @@ fn answer<S: Sink>(
     ensures answers { (told : _) (faults : ℕ) (job : List ℕ) → IsDimacs job formula → Answers hinted
         (record { told = told; file_faults = faults; taken = S.taken sink.old; sink_faults = S.faults sink.old })
         (record { told = told; file_faults = faults; taken = S.taken sink.new; sink_faults = S.faults sink.new }) job budget (exit_of result) }
-    ensures whole { IfOk result (λ exit. (job : List ℕ) → IsDimacs job formula → Wrote (S.taken sink.old) (S.taken sink.new) (λ stream. IsAnswerBy hinted job budget stream exit)) }
+    ensures whole { IfOk result (λ exit. (job : List ℕ) → IsDimacs job formula → Wrote (S.taken sink.old) (S.taken sink.new) (λ stream. IsAnswer hinted job budget stream exit)) }
     ensures failed { result ≡ Err fail.Failed → Rose (S.faults sink.old) (S.faults sink.new) }
     ensures later { S.faults sink.old ≤ S.faults sink.new }
 {

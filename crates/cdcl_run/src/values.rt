@@ -5,7 +5,7 @@ ghost use Rattle.cnf_form.specs.declared.literal.TheConstants.{MAX_VARS};
 ghost use Rattle.cnf_form.specs.Dimacs.{literal_text};
 ghost use Rattle.sby_edge.specs.Cause.{Rose, greatest};
 ghost use Rattle.cdcl_core.specs.Solving.{valued};
-ghost use Rattle.cdcl_run.specs.Answer.{literals_from};
+ghost use Rattle.cdcl_run.specs.Text.{literals_from};
 ghost use Rattle.cdcl_run.specs.Output.{Breaks, Puts};
 ghost use Rattle.cdcl_run.specs.Searching.{values_to};
 ghost use Rattle.cdcl_run.specs.Text.{AreValueLines, break_text};

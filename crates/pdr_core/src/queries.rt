@@ -146,7 +146,7 @@ impl<'a> Queries<'a> {
         self.spent = 0;
         self.used = None;
         let mut solver = load(self.alloc, self.pair.formula(), false)?;
-        solver.take_signs(&self.solver, self.pair.formula().vars());
+        solver.take_phases(&self.solver, self.pair.formula().vars());
         self.solver = solver;
         self.cones.part();
         for level in 1..self.switches.len() {

@@ -134,14 +134,14 @@ impl Solver {
         }
     }
 
-    // The most active unassigned variable, with its last sign.
+    // The most active unassigned variable, with its last phase.
     fn next_decision(&mut self) -> Option<Lit> {
         for _ in 0..u64::MAX {
             let var = self.order.pop();
             if var == 0 || var > self.vars() || var > MAX_VARS {
                 return None;
             }
-            let l = Lit::new(var, at(&self.signs, var as usize, true));
+            let l = Lit::new(var, at(&self.phases, var as usize, true));
             if self.is_open(l) {
                 return Some(l);
             }
@@ -149,11 +149,11 @@ impl Solver {
         None
     }
 
-    /// Takes the signs that variables up to one had last from another solver.
-    pub fn take_signs(&mut self, other: &Solver, vars: u32) {
+    /// Takes the last phases of the variables up to `vars` from another solver.
+    pub fn take_phases(&mut self, other: &Solver, vars: u32) {
         for var in 0..vars as usize + 1 {
-            let sign = at(&other.signs, var, true);
-            set(&mut self.signs, var, sign);
+            let phase = at(&other.phases, var, true);
+            set(&mut self.phases, var, phase);
         }
     }
 

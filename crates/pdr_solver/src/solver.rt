@@ -26,10 +26,10 @@ pub struct Solver {
     // By the literals' places: which literals are true, and the clauses that watch the literal.
     pub(crate) truth: Vec<bool>,
     pub(crate) watches: Vec<Vec<Watch>>,
-    // By variables: the level of its value, the clause that it came from, its last sign, and a mark.
+    // By variables: the level of its value, the clause that it came from, its last phase (whether it was false), and a mark.
     pub(crate) levels: Vec<u32>,
     pub(crate) reasons: Vec<u32>,
-    pub(crate) signs: Vec<bool>,
+    pub(crate) phases: Vec<bool>,
     pub(crate) seen: Vec<bool>,
     // The true literals in their order, how many there were where each level began, and how many were propagated.
     pub(crate) trail: Vec<Lit>,
@@ -62,7 +62,7 @@ impl Solver {
             watches: Vec::new(alloc),
             levels: Vec::new(alloc),
             reasons: Vec::new(alloc),
-            signs: Vec::new(alloc),
+            phases: Vec::new(alloc),
             seen: Vec::new(alloc),
             trail: Vec::new(alloc),
             limits: Vec::new(alloc),
@@ -97,7 +97,7 @@ impl Solver {
         self.watches.push(Vec::new(self.alloc))?;
         self.levels.push(0)?;
         self.reasons.push(NO_CLAUSE)?;
-        self.signs.push(true)?;
+        self.phases.push(true)?;
         self.seen.push(false)?;
         self.order.grow()
     }
@@ -188,7 +188,7 @@ impl Solver {
         for _ in limit..self.trail.len() {
             if let Some(l) = self.trail.pop() {
                 set(&mut self.truth, l.index(), false);
-                set(&mut self.signs, l.var() as usize, l.is_negated());
+                set(&mut self.phases, l.var() as usize, l.is_negated());
                 if !self.is_outside(l.var()) {
                     self.order.insert(l.var())?;
                 }

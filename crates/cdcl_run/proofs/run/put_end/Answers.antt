@@ -1,8 +1,7 @@
 use Rattle.std.proofs.Common.{◌++◌, refl, sym, subst, inr}
-use Rattle.cdcl_run.specs.Answer.{literals_from}
 use Rattle.cdcl_run.specs.Searching.{IsEnd, values_to}
 use Rattle.cdcl_run.specs.Output.{OutputOf}
-use Rattle.cdcl_run.specs.Text.{AreValueLines, satisfiable_line, unsatisfiable_line}
+use Rattle.cdcl_run.specs.Text.{AreValueLines, literals_from, satisfiable_line, unsatisfiable_line}
 use Rattle.cdcl_run.proofs.Putting.{breaks_more, on_err, puts_both, puts_breaks}
 use Rattle.cdcl_run.proofs.Rows.{some_lines}
 use Rattle.cdcl_run.proofs.run.put_end.Goals as goal

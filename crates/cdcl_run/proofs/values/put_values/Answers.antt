@@ -3,10 +3,9 @@ use Rattle.std.proofs.lemmas.Result.{on_err_weaker, on_ok_weaker}
 use Rattle.cnf_form.specs.Cnf.{LitOf}
 use Rattle.cnf_form.specs.Dimacs.{literal_text}
 use Rattle.cdcl_core.specs.Solving.{valued}
-use Rattle.cdcl_run.specs.Answer.{literals_from}
 use Rattle.cdcl_run.specs.Output.{Breaks, OutputOf, Puts}
 use Rattle.cdcl_run.specs.Searching.{values_to}
-use Rattle.cdcl_run.specs.Text.{break_text}
+use Rattle.cdcl_run.specs.Text.{break_text, literals_from}
 use Rattle.cdcl_run.proofs.Putting.{on_err}
 use Rattle.cdcl_run.proofs.Rows.{RowsPut, begin_broken, end_broken, next_broken, rows_ended, rows_more, literals_more, literals_count, literals_rest, values_before}
 use Rattle.cdcl_run.proofs.values.put_values.Goals as goal

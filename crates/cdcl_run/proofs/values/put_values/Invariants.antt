@@ -1,4 +1,4 @@
-use Rattle.cdcl_run.specs.Answer.{literals_from}
+use Rattle.cdcl_run.specs.Text.{literals_from}
 use Rattle.cdcl_run.proofs.Rows.{RowsPut, values_before}
 use Rattle.cdcl_run.proofs.values.put_values.Given as goal
 

@@ -1,0 +1,31 @@
+use Rattle.std.proofs.Common.{◌∷◌, []}
+use Rattle.std.specs.Prelude.{codes}
+use Rattle.std.proofs.lemmas.Result.{on_err_weaker, on_ok_weaker}
+use Rattle.cdcl_run.specs.HintedText.{ids_text}
+use Rattle.cdcl_run.specs.Output.{OutputOf}
+use Rattle.cdcl_run.proofs.Putting.{breaks_more, on_err, puts_both, puts_breaks}
+use Rattle.cdcl_run.proofs.hinted.put_hinted_deletion.Goals as goal
+
+pub returns-in_err-put-clause-failed : goal.returns-in_err-put-clause-failed
+returns-in_err-put-clause-failed g c =
+    let first : OutputOf = record { taken = g.S.Sink.taken c.args.sink.now; faults = g.S.Sink.faults c.args.sink.now; gathered = c.args.piece.now } in
+    let last : OutputOf = record { taken = g.S.Sink.taken c.put.new.sink; faults = g.S.Sink.faults c.put.new.sink; gathered = c.put.new.piece } in
+    on_err c.from_residual.result (breaks_more first last (codes "1 d ") (ids_text (c.args.id ∷ [])) c.in_err-put.ensures.failed)
+
+pub returns-clause-ok : goal.returns-clause-ok
+returns-clause-ok g c =
+    let first : OutputOf = record { taken = g.S.Sink.taken c.args.sink.now; faults = g.S.Sink.faults c.args.sink.now; gathered = c.args.piece.now } in
+    let here : OutputOf = record { taken = g.S.Sink.taken c.put.new.sink; faults = g.S.Sink.faults c.put.new.sink; gathered = c.put.new.piece } in
+    let last : OutputOf = record { taken = g.S.Sink.taken c.put_ids.new.sink; faults = g.S.Sink.faults c.put_ids.new.sink; gathered = c.put_ids.new.piece } in
+    let d = codes "1 d " in
+    let text = ids_text (c.args.id ∷ []) in
+    on_ok_weaker c.put_ids.result (puts_both first here last d text c.in_ok-put.ensures.ok) c.put_ids.ensures.ok
+
+pub returns-clause-failed : goal.returns-clause-failed
+returns-clause-failed g c =
+    let first : OutputOf = record { taken = g.S.Sink.taken c.args.sink.now; faults = g.S.Sink.faults c.args.sink.now; gathered = c.args.piece.now } in
+    let here : OutputOf = record { taken = g.S.Sink.taken c.put.new.sink; faults = g.S.Sink.faults c.put.new.sink; gathered = c.put.new.piece } in
+    let last : OutputOf = record { taken = g.S.Sink.taken c.put_ids.new.sink; faults = g.S.Sink.faults c.put_ids.new.sink; gathered = c.put_ids.new.piece } in
+    let d = codes "1 d " in
+    let text = ids_text (c.args.id ∷ []) in
+    on_err_weaker c.put_ids.result (puts_breaks first here last d text c.in_ok-put.ensures.ok) c.put_ids.ensures.failed
