@@ -1,8 +1,0 @@
-use Rattle.std.proofs.Common.{take}
-use Rattle.cdcl_run.specs.Output.{Puts}
-use Rattle.cdcl_run.proofs.Clauses.{words_text}
-use Rattle.cdcl_run.proofs.hinted.put_literals.Given as goal
-
-abbrev pub invariant-loop-l : goal.invariant-loop-l
-invariant-loop-l g l = Puts (record { taken = g.S.Sink.taken l.fn.sink; faults = g.S.Sink.faults l.fn.sink; gathered = l.fn.piece }) (record { taken = g.S.Sink.taken l.sink; faults = g.S.Sink.faults l.sink; gathered = l.piece })
-    (words_text (take l.l-index l.clause))
