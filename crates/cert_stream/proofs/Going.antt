@@ -1,18 +1,21 @@
--- From each state without a fault a stream goes on, and a fault stands at the byte that brings it.
-use Rattle.std.proofs.Common.{◌≡◌, ◌⊎◌, ℕ, ◌+◌, ◌≤◌, Bool, true, false, cond, not, ◌&&◌, ◌||◌, eqb, leb, List, [], ◌∷◌, length, refl, sym, ◌∙◌, inl, inr, subst}
+-- From each state without a fault a stream goes on, and a fault stands at the byte that brings it; what a byte says is within the variables.
+use Rattle.std.proofs.Common.{◌≡◌, ◌⊎◌, ℕ, ◌+◌, ◌≤◌, Bool, true, false, cond, not, ◌&&◌, ◌||◌, eqb, leb, List, [], ◌∷◌, length, Option, Some, refl, inl, inr, subst}
 use Rattle.std.proofs.lemmas.Bool.{cases_Bool, eqb-true, leb-true, le-leb}
-use Rattle.cnf_form.specs.Cnf.{LitOf}
+use Rattle.cnf_form.specs.Cnf.{LitOf, LitWithin}
 use Rattle.cert_stream.specs.Text.{is_blank, is_digit}
-use Rattle.cert_stream.specs.Machine.{DrupOf, Turn, turn, counted, read, quiet, fails, end_part, end_word, unended, end_line, feed_after, goes_on, begins_literal, spelling, visible, visible_start, visible_plain, visible_first, visible_digit, visible_part, visible_spelled, emptied, literal, with_digit}
+use Rattle.cert_stream.specs.Machine.{DrupOf, Turn, IsPartWithin, IsModeWithin, IsEventWithin, turn, counted, read, quiet, fails, ended, heard, end_part, end_word, unended, end_line, feed_after, goes_on, begins_literal, spelling, visible, visible_start, visible_plain, visible_first, visible_digit, visible_part, visible_spelled, emptied, literal, with_digit}
 use Rattle.cert_stream.specs.Telling.{after}
+use Rattle.cert_stream.specs.declared.mode.Event.{Event}
 use Rattle.cert_stream.specs.declared.mode.ListKind.{ListKind}
 use Rattle.cert_stream.specs.declared.mode.ListKind.TheVariants.{Clause as ClauseList, Deletion, Values}
 use Rattle.cert_stream.specs.declared.mode.ParseFault.{ParseFault}
+use Rattle.cert_stream.specs.declared.mode.ParseFaultKind.{ParseFaultKind}
 use Rattle.cert_stream.specs.declared.mode.ParseFaultKind.TheVariants.{BadLine, BadLiteral, LineTooLong}
 use Rattle.cert_stream.specs.declared.mode.Part.{Part}
 use Rattle.cert_stream.specs.declared.mode.Part.TheVariants.{Gap, Minus, Zero, Digits}
 use Rattle.cert_stream.specs.declared.mode.Mode.{Mode}
 use Rattle.cert_stream.specs.declared.mode.Mode.TheVariants.{Start, Skip, Head, StatusHead, StatusGap, Spelled, Whole, InList, Closed, Bad, Lost}
+use Rattle.cert_stream.proofs.Moving.{Machine, Moves, Next, by_case, either, in_turn, kept_within, not_false}
 use Rattle.cert_stream.proofs.Turning.{parser}
 
 -- no fault, and a minus only where there is a variable
@@ -35,94 +38,74 @@ Going vars Closed = Unit {0}
 Going vars (Bad f) = ⊥
 Going vars Lost = ⊥
 
--- or a fault at byte number `taken`
-abbrev Next : ℕ → ℕ → Mode → Type 0
-Next vars taken (Start amid) = Unit {0}
-Next vars taken (Skip amid) = Unit {0}
-Next vars taken (Head kind) = Unit {0}
-Next vars taken StatusHead = Unit {0}
-Next vars taken StatusGap = Unit {0}
-Next vars taken (Spelled n) = Unit {0}
-Next vars taken Whole = Unit {0}
-Next vars taken (InList kind part) = GoingPart vars part
-Next vars taken Closed = Unit {0}
-Next vars taken (Bad f) = f.byte ≡ taken
-Next vars taken Lost = ⊥
+either_going : (vars : ℕ) (c : Bool) (m n : Mode) → Going vars m → Going vars n → Going vars (cond c m n)
+either_going vars true m n h k = h
+either_going vars false m n h k = k
 
-pub going_or_bad : (vars taken : ℕ) (m : Mode) → Next vars taken m → Going vars m ⊎ ((f : ParseFault) × (m ≡ Bad f) × (f.byte ≡ taken))
-going_or_bad vars taken (Start amid) n = inl tt
-going_or_bad vars taken (Skip amid) n = inl tt
-going_or_bad vars taken (Head kind) n = inl tt
-going_or_bad vars taken StatusHead n = inl tt
-going_or_bad vars taken StatusGap n = inl tt
-going_or_bad vars taken (Spelled k) n = inl tt
-going_or_bad vars taken Whole n = inl tt
-going_or_bad vars taken (InList kind part) n = inl n
-going_or_bad vars taken Closed n = inl tt
-going_or_bad vars taken (Bad f) n = inr (f, refl, n)
-going_or_bad vars taken Lost n = absurd n
+abbrev machine : Machine DrupOf Mode Turn
+machine = record { to = λ t. t.to; event = λ t. t.event; vars = λ w. w.vars; taken = λ w. w.taken; mode = λ w. w.mode; Goes = Going; bad = Bad }
 
-record Moves (w : DrupOf) (t : Turn) : Type 0 where
-  pub vars : t.to.vars ≡ w.vars
-  pub taken : t.to.taken ≡ w.taken
-  pub next : Next w.vars w.taken t.to.mode
+quiet_moves : {N I : Type 0} (w : DrupOf) (m : Mode) → (N → Next machine w.vars w.taken m) → Moves machine N I w.vars w.taken (quiet w m)
+quiet_moves w m n = record { keeps = refl; counts = refl; next = n; said = λ _. tt }
 
-quiet_moves : (w : DrupOf) (m : Mode) → Next w.vars w.taken m → Moves w (quiet w m)
-quiet_moves w m n = record { vars = refl; taken = refl; next = n }
+stays_moves : {I : Type 0} (w : DrupOf) (m : Mode) → Moves machine (Going w.vars m) I w.vars w.taken (quiet w m)
+stays_moves w m = quiet_moves w m (λ n. inl n)
 
-end_part_moves : (w : DrupOf) (kind : ListKind) (part : Part) → Moves w (end_part w kind part)
-end_part_moves w kind Gap = record { vars = refl; taken = refl; next = tt }
-end_part_moves w kind Minus = record { vars = refl; taken = refl; next = refl }
-end_part_moves w kind Zero = record { vars = refl; taken = refl; next = tt }
-end_part_moves w kind (Digits l) = record { vars = refl; taken = refl; next = tt }
+goes_moves : {N I : Type 0} (w : DrupOf) (m : Mode) → Going w.vars m → Moves machine N I w.vars w.taken (quiet w m)
+goes_moves w m n = quiet_moves w m (λ _. inl n)
 
-end_word_moves : (w : DrupOf) (m : Mode) → Going w.vars m → Moves w (end_word w m)
-end_word_moves w (Start amid) n = quiet_moves w (Start amid) tt
-end_word_moves w (Skip amid) n = quiet_moves w (Skip amid) tt
-end_word_moves w (Head kind) n = quiet_moves w (InList kind Gap) tt
-end_word_moves w StatusHead n = quiet_moves w StatusGap tt
-end_word_moves w StatusGap n = quiet_moves w StatusGap tt
-end_word_moves w (Spelled k) n = elim (cases_Bool (eqb k 7)) [ inl t ↦ rw t (quiet_moves w Whole tt) | inr f ↦ rw f (quiet_moves w (Skip false) tt) ]
-end_word_moves w Whole n = quiet_moves w Whole tt
-end_word_moves w (InList kind part) n = end_part_moves w kind part
-end_word_moves w Closed n = quiet_moves w Closed tt
-end_word_moves w (Bad f) n = absurd n
-end_word_moves w Lost n = absurd n
+fails_moves : {N I : Type 0} (w : DrupOf) (kind : ParseFaultKind) → Moves machine N I w.vars w.taken (fails w kind)
+fails_moves w kind = quiet_moves w (Bad (record { kind = kind; byte = w.taken })) (λ _. inr (record { kind = kind; byte = w.taken }, refl, refl))
 
-unended_moves : (w : DrupOf) (kind : ListKind) → Moves w (unended w kind)
-unended_moves w ClauseList = record { vars = refl; taken = refl; next = refl }
-unended_moves w Deletion = record { vars = refl; taken = refl; next = refl }
-unended_moves w Values = record { vars = refl; taken = refl; next = tt }
+ended_within : (vars : ℕ) (kind : ListKind) → IsEventWithin vars (Some (ended kind))
+ended_within vars ClauseList = tt
+ended_within vars Deletion = tt
+ended_within vars Values = tt
 
-end_line_moves : (w : DrupOf) (m : Mode) → Next w.vars w.taken m → Moves w (end_line w m)
-end_line_moves w (Start amid) n = quiet_moves w (Start amid) tt
-end_line_moves w (Skip amid) n = quiet_moves w (Start amid) tt
-end_line_moves w (Head kind) n = unended_moves w kind
-end_line_moves w StatusHead n = quiet_moves w (Start false) tt
-end_line_moves w StatusGap n = quiet_moves w (Start false) tt
-end_line_moves w (Spelled k) n = quiet_moves w (Start false) tt
-end_line_moves w Whole n = record { vars = refl; taken = refl; next = tt }
-end_line_moves w (InList kind part) n = unended_moves w kind
-end_line_moves w Closed n = quiet_moves w (Start false) tt
-end_line_moves w (Bad f) n = quiet_moves w (Bad f) n
-end_line_moves w Lost n = absurd n
+heard_within : (vars : ℕ) (kind : ListKind) (l : LitOf) → LitWithin vars l → IsEventWithin vars (heard kind l)
+heard_within vars ClauseList l i = tt
+heard_within vars Deletion l i = tt
+heard_within vars Values l i = i
 
-after_moves : (w : DrupOf) (t : Turn) → Moves w t → Moves w (feed_after t)
-after_moves w t h =
-    let n : Next t.to.vars t.to.taken t.to.mode = subst (λ z. Next z t.to.taken t.to.mode) (sym h.vars) (subst (λ z. Next w.vars z t.to.mode) (sym h.taken) h.next) in
-    let k = end_line_moves t.to t.to.mode n in
-    record {
-      vars = k.vars ∙ h.vars;
-      taken = k.taken ∙ h.taken;
-      next = subst (λ z. Next z w.taken (end_line t.to t.to.mode).to.mode) h.vars (subst (λ z. Next t.to.vars z (end_line t.to t.to.mode).to.mode) h.taken k.next);
-    }
+end_part_moves : {N : Type 0} (w : DrupOf) (kind : ListKind) (part : Part) → Moves machine N (IsPartWithin w.vars part) w.vars w.taken (end_part w kind part)
+end_part_moves w kind Gap = goes_moves w (InList kind Gap) tt
+end_part_moves w kind Minus = fails_moves w BadLiteral
+end_part_moves w kind Zero = record { keeps = refl; counts = refl; next = λ _. inl tt; said = λ _. ended_within w.vars kind }
+end_part_moves w kind (Digits l) = record { keeps = refl; counts = refl; next = λ _. inl tt; said = λ i. heard_within w.vars kind l i }
 
-digit_moves : (w : DrupOf) (kind : ListKind) (negated : Bool) (n b : ℕ) → Moves w (visible_digit w kind negated n b)
-digit_moves w kind negated n b =
-    elim (cases_Bool (goes_on w.vars n b)) [
-      | inl t ↦ rw t (quiet_moves w (InList kind (Digits (literal (with_digit n b) negated))) tt)
-      | inr f ↦ rw f (quiet_moves w (Bad (record { kind = BadLiteral; byte = w.taken })) refl)
-    ]
+end_word_moves : (w : DrupOf) (m : Mode) → Moves machine (Going w.vars m) (IsModeWithin w.vars m) w.vars w.taken (end_word w m)
+end_word_moves w (Start amid) = stays_moves w (Start amid)
+end_word_moves w (Skip amid) = stays_moves w (Skip amid)
+end_word_moves w (Head kind) = goes_moves w (InList kind Gap) tt
+end_word_moves w StatusHead = goes_moves w StatusGap tt
+end_word_moves w StatusGap = stays_moves w StatusGap
+end_word_moves w (Spelled k) = goes_moves w (cond (eqb k 7) Whole (Skip false)) (either_going w.vars (eqb k 7) Whole (Skip false) tt tt)
+end_word_moves w Whole = stays_moves w Whole
+end_word_moves w (InList kind part) = end_part_moves w kind part
+end_word_moves w Closed = stays_moves w Closed
+end_word_moves w (Bad f) = stays_moves w (Bad f)
+end_word_moves w Lost = stays_moves w Lost
+
+unended_moves : {N I : Type 0} (w : DrupOf) (kind : ListKind) → Moves machine N I w.vars w.taken (unended w kind)
+unended_moves w ClauseList = fails_moves w BadLine
+unended_moves w Deletion = fails_moves w BadLine
+unended_moves w Values = goes_moves w (Start true) tt
+
+end_line_moves : (w : DrupOf) (m : Mode) → Moves machine (Next machine w.vars w.taken m) (Unit {0}) w.vars w.taken (end_line w m)
+end_line_moves w (Start amid) = goes_moves w (Start amid) tt
+end_line_moves w (Skip amid) = goes_moves w (Start amid) tt
+end_line_moves w (Head kind) = unended_moves w kind
+end_line_moves w StatusHead = goes_moves w (Start false) tt
+end_line_moves w StatusGap = goes_moves w (Start false) tt
+end_line_moves w (Spelled k) = goes_moves w (Start false) tt
+end_line_moves w Whole = record { keeps = refl; counts = refl; next = λ _. inl tt; said = λ _. tt }
+end_line_moves w (InList kind part) = unended_moves w kind
+end_line_moves w Closed = goes_moves w (Start false) tt
+end_line_moves w (Bad f) = quiet_moves w (Bad f) (λ n. n)
+end_line_moves w Lost = quiet_moves w Lost (λ n. n)
+
+digit_moves : {N I : Type 0} (w : DrupOf) (kind : ListKind) (negated : Bool) (n b : ℕ) → Moves machine N I w.vars w.taken (visible_digit w kind negated n b)
+digit_moves w kind negated n b = either machine (goes_on w.vars n b) _ _ (goes_moves w (InList kind (Digits (literal (with_digit n b) negated))) tt) (fails_moves w BadLiteral)
 
 pub minus_room : (vars b : ℕ) → begins_literal vars b ≡ true → eqb b 45 ≡ true → 1 ≤ vars
 minus_room vars b g t =
@@ -130,80 +113,60 @@ minus_room vars b g t =
     let e : begins_literal vars 45 ≡ true = subst (λ z. begins_literal vars z ≡ true) i g in
     elim (cases_Bool (leb 1 vars)) [ inl s ↦ leb-true 1 vars s | inr f ↦ absurd (let k : (leb 1 vars || false) ≡ true = e in let m : (false || false) ≡ true = subst (λ z. (z || false) ≡ true) f k in cc) ]
 
-first_moves : (w : DrupOf) (kind : ListKind) (b : ℕ) → Moves w (visible_first w kind b)
+first_moves : {N I : Type 0} (w : DrupOf) (kind : ListKind) (b : ℕ) → Moves machine N I w.vars w.taken (visible_first w kind b)
 first_moves w kind b =
-    elim (cases_Bool (eqb b 48)) [
-      | inl t ↦ rw t (quiet_moves w (InList kind Zero) tt)
-      | inr f ↦ rw f (elim (cases_Bool (begins_literal w.vars b)) [
-        | inr g ↦ rw g (quiet_moves w (Bad (record { kind = BadLiteral; byte = w.taken })) refl)
-        | inl g ↦ let room = minus_room w.vars b g in rw g (elim (cases_Bool (leb w.vars (length w.lits))) [
-          | inl t ↦ rw t (quiet_moves w (Bad (record { kind = LineTooLong; byte = w.taken })) refl)
-          | inr h ↦ rw h (elim (cases_Bool (eqb b 45)) [ inl t ↦ let n = room t in rw t (quiet_moves w (InList kind Minus) n) | inr i ↦ rw i (digit_moves w kind false 0 b) ])
-        ])
-      ])
-    ]
+    either machine (eqb b 48) _ _ (goes_moves w (InList kind Zero) tt)
+    (by_case machine (not (begins_literal w.vars b)) _ _ (λ _. fails_moves w BadLiteral)
+    (λ g. either machine (leb w.vars (length w.lits)) _ _ (fails_moves w LineTooLong)
+    (by_case machine (eqb b 45) _ _ (λ t. goes_moves w (InList kind Minus) (minus_room w.vars b (not_false (begins_literal w.vars b) g) t)) (λ _. digit_moves w kind false 0 b))))
 
-part_moves : (w : DrupOf) (kind : ListKind) (part : Part) (b : ℕ) → Moves w (visible_part w kind part b)
+part_moves : {N I : Type 0} (w : DrupOf) (kind : ListKind) (part : Part) (b : ℕ) → Moves machine N I w.vars w.taken (visible_part w kind part b)
 part_moves w kind Gap b = first_moves w kind b
 part_moves w kind Minus b = digit_moves w kind true 0 b
-part_moves w kind Zero b = quiet_moves w (Bad (record { kind = BadLiteral; byte = w.taken })) refl
+part_moves w kind Zero b = fails_moves w BadLiteral
 part_moves w kind (Digits l) b = digit_moves w kind l.negated l.var b
 
-plain_moves : (w : DrupOf) (b : ℕ) → Moves w (visible_plain w b)
+plain_moves : {N I : Type 0} (w : DrupOf) (b : ℕ) → Moves machine N I w.vars w.taken (visible_plain w b)
 plain_moves w b =
-    elim (cases_Bool (eqb b 115)) [
-      | inl t ↦ rw t (quiet_moves w StatusHead tt)
-      | inr f ↦ rw f (elim (cases_Bool (eqb b 100)) [
-        | inl t ↦ rw t (quiet_moves w (Head Deletion) tt)
-        | inr g ↦ rw g (elim (cases_Bool (eqb b 45 || is_digit b)) [
-          | inl t ↦ rw t (first_moves w ClauseList b)
-          | inr h ↦ rw h (quiet_moves w (Bad (record { kind = BadLine; byte = w.taken })) refl)
-        ])
-      ])
-    ]
+    either machine (eqb b 115) _ _ (goes_moves w StatusHead tt)
+    (either machine (eqb b 100) _ _ (goes_moves w (Head Deletion) tt) (either machine (eqb b 45 || is_digit b) _ _ (first_moves w ClauseList b) (fails_moves w BadLine)))
 
-start_moves : (w : DrupOf) (amid : Bool) (b : ℕ) → Moves w (visible_start w amid b)
+start_moves : {N I : Type 0} (w : DrupOf) (amid : Bool) (b : ℕ) → Moves machine N I w.vars w.taken (visible_start w amid b)
 start_moves w amid b =
-    elim (cases_Bool (eqb b 99)) [
-      | inl t ↦ rw t (quiet_moves w (Skip amid) tt)
-      | inr f ↦ rw f (elim (cases_Bool (eqb b 118)) [
-        | inl t ↦ rw t (quiet_moves w (Head Values) tt)
-        | inr g ↦ rw g (other amid)
-      ])
-    ]
-  where
-    other : (amid : Bool) → Moves w (cond amid (fails w BadLine) (visible_plain w b))
-    other true = quiet_moves w (Bad (record { kind = BadLine; byte = w.taken })) refl
-    other false = plain_moves w b
+    either machine (eqb b 99) _ _ (goes_moves w (Skip amid) tt) (either machine (eqb b 118) _ _ (goes_moves w (Head Values) tt) (either machine amid _ _ (fails_moves w BadLine) (plain_moves w b)))
 
-spelled_moves : (w : DrupOf) (n b : ℕ) → Moves w (visible_spelled w n b)
+spelled_moves : {N I : Type 0} (w : DrupOf) (n b : ℕ) → Moves machine N I w.vars w.taken (visible_spelled w n b)
 spelled_moves w n b =
-    elim (cases_Bool (not (leb 7 n) && eqb b (spelling n))) [ inl t ↦ rw t (quiet_moves w (Spelled (n + 1)) tt) | inr f ↦ rw f (quiet_moves w (Skip false) tt) ]
+    goes_moves w (cond (not (leb 7 n) && eqb b (spelling n)) (Spelled (n + 1)) (Skip false)) (either_going w.vars (not (leb 7 n) && eqb b (spelling n)) (Spelled (n + 1)) (Skip false) tt tt)
 
-visible_moves : (w : DrupOf) (m : Mode) (b : ℕ) → Going w.vars m → Moves w (visible w m b)
-visible_moves w (Start amid) b n = let k = start_moves (emptied w) amid b in record { vars = k.vars; taken = k.taken; next = k.next }
-visible_moves w (Skip amid) b n = quiet_moves w (Skip amid) tt
-visible_moves w (Head kind) b n = quiet_moves w (Bad (record { kind = BadLine; byte = w.taken })) refl
-visible_moves w StatusHead b n = quiet_moves w (Bad (record { kind = BadLine; byte = w.taken })) refl
-visible_moves w StatusGap b n = spelled_moves w 0 b
-visible_moves w (Spelled k) b n = spelled_moves w k b
-visible_moves w Whole b n = quiet_moves w (Skip false) tt
-visible_moves w (InList kind part) b n = part_moves w kind part b
-visible_moves w Closed b n = quiet_moves w (Bad (record { kind = BadLine; byte = w.taken })) refl
-visible_moves w (Bad f) b n = absurd n
-visible_moves w Lost b n = absurd n
+visible_moves : {I : Type 0} (w : DrupOf) (m : Mode) (b : ℕ) → Moves machine (Going w.vars m) I w.vars w.taken (visible w m b)
+visible_moves w (Start amid) b = start_moves (emptied w) amid b
+visible_moves w (Skip amid) b = stays_moves w (Skip amid)
+visible_moves w (Head kind) b = fails_moves w BadLine
+visible_moves w StatusHead b = fails_moves w BadLine
+visible_moves w StatusGap b = spelled_moves w 0 b
+visible_moves w (Spelled k) b = spelled_moves w k b
+visible_moves w Whole b = goes_moves w (Skip false) tt
+visible_moves w (InList kind part) b = part_moves w kind part b
+visible_moves w Closed b = fails_moves w BadLine
+visible_moves w (Bad f) b = stays_moves w (Bad f)
+visible_moves w Lost b = stays_moves w Lost
 
-read_moves : (w : DrupOf) (b : ℕ) → Going w.vars w.mode → Moves w (read w b)
-read_moves w b n =
-    elim (cases_Bool (eqb b 10)) [
-      | inl t ↦ rw t (after_moves w (end_word w w.mode) (end_word_moves w w.mode n))
-      | inr f ↦ rw f (elim (cases_Bool (is_blank b)) [ inl t ↦ rw t (end_word_moves w w.mode n) | inr g ↦ rw g (visible_moves w w.mode b n) ])
-    ]
+read_moves : (w : DrupOf) (b : ℕ) → Moves machine (Going w.vars w.mode) (IsModeWithin w.vars w.mode) w.vars w.taken (read w b)
+read_moves w b =
+    let t : Turn = end_word w w.mode in
+    let h = end_word_moves w w.mode in
+    either machine (eqb b 10) (feed_after t) (cond (is_blank b) t (visible w w.mode b)) (in_turn machine t (end_line t.to t.to.mode) (feed_after t) refl refl h (end_line_moves t.to t.to.mode))
+    (either machine (is_blank b) t (visible w w.mode b) h (visible_moves w w.mode b))
 
 -- a byte keeps the variables, and goes on or is at fault
 pub turn_next : (w : DrupOf) (b : ℕ) → Going w.vars w.mode
     → ((turn w b).to.vars ≡ w.vars) × (Going w.vars (turn w b).to.mode ⊎ ((f : ParseFault) × ((turn w b).to.mode ≡ Bad f) × (f.byte ≡ w.taken)))
-turn_next w b n = let k = read_moves w b n in (k.vars, going_or_bad w.vars w.taken (turn w b).to.mode k.next)
+turn_next w b n = let k = read_moves w b in (k.keeps, k.next n)
+
+pub read_said : (w v : DrupOf) (b : ℕ) (event : Option Event) → IsModeWithin w.vars w.mode → (let t : Turn = record { to = v; event = event } in t) ≡ read w b
+    → (v.vars ≡ w.vars) × IsEventWithin w.vars event
+read_said w v b event i e = kept_within machine (read w b) (record { to = v; event = event }) e (read_moves w b) i
 
 -- bytes that end the line without a fault
 pub record Completes (w : DrupOf) : Type 0 where

@@ -24,9 +24,6 @@ module _ {X : Type 0} where
   pub starts_none : (all : List X) → Starts [] all
   starts_none all = (all, refl)
 
-  pub starts_same : (all : List X) → Starts all all
-  starts_same all = ([], sym (append-nil all))
-
   pub starts_told : (told front all : List X) → Starts front all → Starts (told ++ front) (told ++ all)
   starts_told told front all (more, e) = (more, ap (λ z. told ++ z) e ∙ sym (append_assoc told front more))
 

@@ -1,4 +1,4 @@
-pub mod Keeping
+pub mod Moving
 pub mod Remainders
 pub mod Pieces
 pub mod Cutting
@@ -32,7 +32,6 @@ pub mod LratGoing
 pub mod LratBeginnings
 pub mod LratQuiet
 pub mod LratGoingOn
-pub mod LratKeeping
 pub mod LratLining
 pub mod LratListing
 pub mod LratLiterals

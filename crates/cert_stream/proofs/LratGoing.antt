@@ -1,10 +1,13 @@
--- From each state of a hinted stream without a fault one goes on, and a fault stands at the byte that brings it.
-use Rattle.std.proofs.Common.{◌≡◌, ◌⊎◌, ℕ, ◌+◌, Bool, true, false, cond, not, ◌&&◌, eqb, leb, List, [], ◌∷◌, length, refl, sym, ◌∙◌, inl, inr, subst}
-use Rattle.std.proofs.lemmas.Bool.{cases_Bool, le-leb}
+-- From each state of a hinted stream without a fault one goes on, and a fault stands at the byte that brings it; what a byte says is within the
+-- variables.
+use Rattle.std.proofs.Common.{◌≡◌, ◌⊎◌, ℕ, ◌+◌, Bool, true, false, cond, not, ◌&&◌, eqb, leb, List, [], ◌∷◌, length, Option, Some, refl, inl, inr}
+use Rattle.std.proofs.lemmas.Bool.{le-leb}
+use Rattle.cnf_form.specs.Cnf.{LitOf, LitWithin}
 use Rattle.cert_stream.specs.Text.{is_blank, is_digit}
-use Rattle.cert_stream.specs.Machine.{begins_literal, goes_on, literal, spelling, with_digit}
-use Rattle.cert_stream.specs.LratMachine.{LratOf, Turn, begins_id, counted, emptied, end_id_part, end_line, end_part, end_word, fails, feed_after, hint, id_digit, id_first, id_goes_on, id_part, lits_ended, most_hints, own_digit, quiet, read, turn, unended, visible, visible_after_id, visible_digit, visible_first, visible_part, visible_plain, visible_spelled, visible_start}
+use Rattle.cert_stream.specs.Machine.{IsPartWithin, IsEventWithin, begins_literal, goes_on, literal, spelling, with_digit}
+use Rattle.cert_stream.specs.LratMachine.{LratOf, Turn, IsModeWithin, begins_id, counted, emptied, end_id_part, end_line, end_part, end_word, ended, fails, feed_after, heard, hint, id_digit, id_first, id_goes_on, id_part, lits_ended, most_hints, own_digit, quiet, read, turn, unended, visible, visible_after_id, visible_digit, visible_first, visible_part, visible_plain, visible_spelled, visible_start}
 use Rattle.cert_stream.specs.LratTelling.{after}
+use Rattle.cert_stream.specs.declared.mode.Event.{Event}
 use Rattle.cert_stream.specs.declared.mode.ParseFault.{ParseFault}
 use Rattle.cert_stream.specs.declared.mode.ParseFaultKind.{ParseFaultKind}
 use Rattle.cert_stream.specs.declared.mode.ParseFaultKind.TheVariants.{BadLine, BadLiteral, LineTooLong}
@@ -13,13 +16,14 @@ use Rattle.cert_stream.specs.declared.mode.Part.TheVariants.{Gap, Minus, Zero, D
 use Rattle.cert_stream.specs.declared.lrat.mode.LitList.{LitList}
 use Rattle.cert_stream.specs.declared.lrat.mode.LitList.TheVariants.{Clause, Values}
 use Rattle.cert_stream.specs.declared.lrat.mode.IdList.{IdList}
-use Rattle.cert_stream.specs.declared.lrat.mode.IdList.TheVariants.{Deletion}
+use Rattle.cert_stream.specs.declared.lrat.mode.IdList.TheVariants.{Hints, Deletion}
 use Rattle.cert_stream.specs.declared.lrat.mode.IdPart.{IdPart}
 use Rattle.cert_stream.specs.declared.lrat.mode.IdPart.TheVariants.{Gap as IdGap, Minus as IdMinus, Zero as IdZero, Digits as IdDigits}
 use Rattle.cert_stream.specs.declared.lrat.mode.Mode.{Mode}
 use Rattle.cert_stream.specs.declared.lrat.mode.Mode.TheVariants.{Start, Skip, ValuesHead, StatusHead, StatusGap, Spelled, Whole, InId, AfterId, DeletionHead, InLits, InIds, Closed, Bad}
 use Rattle.cert_stream.proofs.Going.{GoingPart, minus_room}
 use Rattle.cert_stream.proofs.LratTurning.{Kept, parser}
+use Rattle.cert_stream.proofs.Moving.{Machine, Moves, Next, by_case, either, in_turn, kept_within, not_false}
 
 -- no fault, and a minus before a literal only where there is a variable
 abbrev pub Going : ℕ → Mode → Type 0
@@ -38,222 +42,165 @@ Going vars (InIds kind part) = Unit {0}
 Going vars Closed = Unit {0}
 Going vars (Bad f) = ⊥
 
--- or a fault at byte number `taken`
-abbrev Next : ℕ → ℕ → Mode → Type 0
-Next vars taken (Start amid) = Unit {0}
-Next vars taken (Skip amid) = Unit {0}
-Next vars taken ValuesHead = Unit {0}
-Next vars taken StatusHead = Unit {0}
-Next vars taken StatusGap = Unit {0}
-Next vars taken (Spelled k) = Unit {0}
-Next vars taken Whole = Unit {0}
-Next vars taken (InId k) = Unit {0}
-Next vars taken AfterId = Unit {0}
-Next vars taken DeletionHead = Unit {0}
-Next vars taken (InLits kind part) = GoingPart vars part
-Next vars taken (InIds kind part) = Unit {0}
-Next vars taken Closed = Unit {0}
-Next vars taken (Bad f) = f.byte ≡ taken
+either_going : (vars : ℕ) (c : Bool) (m n : Mode) → Going vars m → Going vars n → Going vars (cond c m n)
+either_going vars true m n h k = h
+either_going vars false m n h k = k
 
-pub going_or_bad : (vars taken : ℕ) (m : Mode) → Next vars taken m → Going vars m ⊎ ((f : ParseFault) × (m ≡ Bad f) × (f.byte ≡ taken))
-going_or_bad vars taken (Start amid) n = inl tt
-going_or_bad vars taken (Skip amid) n = inl tt
-going_or_bad vars taken ValuesHead n = inl tt
-going_or_bad vars taken StatusHead n = inl tt
-going_or_bad vars taken StatusGap n = inl tt
-going_or_bad vars taken (Spelled k) n = inl tt
-going_or_bad vars taken Whole n = inl tt
-going_or_bad vars taken (InId k) n = inl tt
-going_or_bad vars taken AfterId n = inl tt
-going_or_bad vars taken DeletionHead n = inl tt
-going_or_bad vars taken (InLits kind part) n = inl n
-going_or_bad vars taken (InIds kind part) n = inl tt
-going_or_bad vars taken Closed n = inl tt
-going_or_bad vars taken (Bad f) n = inr (f, refl, n)
+abbrev machine : Machine LratOf Mode Turn
+machine = record { to = λ t. t.to; event = λ t. t.event; vars = λ w. w.vars; taken = λ w. w.taken; mode = λ w. w.mode; Goes = Going; bad = Bad }
 
-record Moves (w : LratOf) (t : Turn) : Type 0 where
-  pub vars : t.to.vars ≡ w.vars
-  pub taken : t.to.taken ≡ w.taken
-  pub next : Next w.vars w.taken t.to.mode
+quiet_moves : {N I : Type 0} (w : LratOf) (m : Mode) → (N → Next machine w.vars w.taken m) → Moves machine N I w.vars w.taken (quiet w m)
+quiet_moves w m n = record { keeps = refl; counts = refl; next = n; said = λ _. tt }
 
-quiet_moves : (w : LratOf) (m : Mode) → Next w.vars w.taken m → Moves w (quiet w m)
-quiet_moves w m n = record { vars = refl; taken = refl; next = n }
+stays_moves : {I : Type 0} (w : LratOf) (m : Mode) → Moves machine (Going w.vars m) I w.vars w.taken (quiet w m)
+stays_moves w m = quiet_moves w m (λ n. inl n)
 
-fails_moves : (w : LratOf) (kind : ParseFaultKind) → Moves w (fails w kind)
-fails_moves w kind = quiet_moves w (Bad (record { kind = kind; byte = w.taken })) refl
+goes_moves : {N I : Type 0} (w : LratOf) (m : Mode) → Going w.vars m → Moves machine N I w.vars w.taken (quiet w m)
+goes_moves w m n = quiet_moves w m (λ _. inl n)
 
-lits_ended_moves : (w : LratOf) (kind : LitList) → Moves w (lits_ended w kind)
-lits_ended_moves w Clause = record { vars = refl; taken = refl; next = tt }
-lits_ended_moves w Values = record { vars = refl; taken = refl; next = tt }
+fails_moves : {N I : Type 0} (w : LratOf) (kind : ParseFaultKind) → Moves machine N I w.vars w.taken (fails w kind)
+fails_moves w kind = quiet_moves w (Bad (record { kind = kind; byte = w.taken })) (λ _. inr (record { kind = kind; byte = w.taken }, refl, refl))
 
-end_part_moves : (w : LratOf) (kind : LitList) (part : Part) → Moves w (end_part w kind part)
-end_part_moves w kind Gap = record { vars = refl; taken = refl; next = tt }
-end_part_moves w kind Minus = record { vars = refl; taken = refl; next = refl }
+lits_ended_moves : {N I : Type 0} (w : LratOf) (kind : LitList) → Moves machine N I w.vars w.taken (lits_ended w kind)
+lits_ended_moves w Clause = goes_moves w (InIds Hints IdGap) tt
+lits_ended_moves w Values = record { keeps = refl; counts = refl; next = λ _. inl tt; said = λ _. tt }
+
+ended_within : (vars : ℕ) (kind : IdList) → IsEventWithin vars (Some (ended kind))
+ended_within vars Hints = tt
+ended_within vars Deletion = tt
+
+heard_within : (vars : ℕ) (kind : LitList) (l : LitOf) → LitWithin vars l → IsEventWithin vars (heard kind l)
+heard_within vars Clause l i = tt
+heard_within vars Values l i = i
+
+end_part_moves : {N : Type 0} (w : LratOf) (kind : LitList) (part : Part) → Moves machine N (IsPartWithin w.vars part) w.vars w.taken (end_part w kind part)
+end_part_moves w kind Gap = goes_moves w (InLits kind Gap) tt
+end_part_moves w kind Minus = fails_moves w BadLiteral
 end_part_moves w kind Zero = lits_ended_moves w kind
-end_part_moves w kind (Digits l) = record { vars = refl; taken = refl; next = tt }
+end_part_moves w kind (Digits l) = record { keeps = refl; counts = refl; next = λ _. inl tt; said = λ i. heard_within w.vars kind l i }
 
-end_id_part_moves : (w : LratOf) (kind : IdList) (part : IdPart) → Moves w (end_id_part w kind part)
-end_id_part_moves w kind IdGap = record { vars = refl; taken = refl; next = tt }
-end_id_part_moves w kind (IdMinus place) = record { vars = refl; taken = refl; next = refl }
-end_id_part_moves w kind IdZero = record { vars = refl; taken = refl; next = tt }
-end_id_part_moves w kind (IdDigits h) = record { vars = refl; taken = refl; next = tt }
+end_id_part_moves : {N I : Type 0} (w : LratOf) (kind : IdList) (part : IdPart) → Moves machine N I w.vars w.taken (end_id_part w kind part)
+end_id_part_moves w kind IdGap = goes_moves w (InIds kind IdGap) tt
+end_id_part_moves w kind (IdMinus place) = fails_moves w BadLiteral
+end_id_part_moves w kind IdZero = record { keeps = refl; counts = refl; next = λ _. inl tt; said = λ _. ended_within w.vars kind }
+end_id_part_moves w kind (IdDigits h) = record { keeps = refl; counts = refl; next = λ _. inl tt; said = λ _. tt }
 
-end_word_moves : (w : LratOf) (m : Mode) → Going w.vars m → Moves w (end_word w m)
-end_word_moves w (Start amid) n = quiet_moves w (Start amid) tt
-end_word_moves w (Skip amid) n = quiet_moves w (Skip amid) tt
-end_word_moves w ValuesHead n = quiet_moves w (InLits Values Gap) tt
-end_word_moves w StatusHead n = quiet_moves w StatusGap tt
-end_word_moves w StatusGap n = quiet_moves w StatusGap tt
-end_word_moves w (Spelled k) n = elim (cases_Bool (eqb k 7)) [ inl t ↦ rw t (quiet_moves w Whole tt) | inr f ↦ rw f (quiet_moves w (Skip false) tt) ]
-end_word_moves w Whole n = quiet_moves w Whole tt
-end_word_moves w (InId k) n = record { vars = refl; taken = refl; next = tt }
-end_word_moves w AfterId n = quiet_moves w AfterId tt
-end_word_moves w DeletionHead n = quiet_moves w (InIds Deletion IdGap) tt
-end_word_moves w (InLits kind part) n = end_part_moves w kind part
-end_word_moves w (InIds kind part) n = end_id_part_moves w kind part
-end_word_moves w Closed n = quiet_moves w Closed tt
-end_word_moves w (Bad f) n = absurd n
+end_word_moves : (w : LratOf) (m : Mode) → Moves machine (Going w.vars m) (IsModeWithin w.vars m) w.vars w.taken (end_word w m)
+end_word_moves w (Start amid) = stays_moves w (Start amid)
+end_word_moves w (Skip amid) = stays_moves w (Skip amid)
+end_word_moves w ValuesHead = goes_moves w (InLits Values Gap) tt
+end_word_moves w StatusHead = goes_moves w StatusGap tt
+end_word_moves w StatusGap = stays_moves w StatusGap
+end_word_moves w (Spelled k) = goes_moves w (cond (eqb k 7) Whole (Skip false)) (either_going w.vars (eqb k 7) Whole (Skip false) tt tt)
+end_word_moves w Whole = stays_moves w Whole
+end_word_moves w (InId k) = record { keeps = refl; counts = refl; next = λ _. inl tt; said = λ _. tt }
+end_word_moves w AfterId = stays_moves w AfterId
+end_word_moves w DeletionHead = goes_moves w (InIds Deletion IdGap) tt
+end_word_moves w (InLits kind part) = end_part_moves w kind part
+end_word_moves w (InIds kind part) = end_id_part_moves w kind part
+end_word_moves w Closed = stays_moves w Closed
+end_word_moves w (Bad f) = stays_moves w (Bad f)
 
-unended_moves : (w : LratOf) (kind : LitList) → Moves w (unended w kind)
-unended_moves w Clause = record { vars = refl; taken = refl; next = refl }
-unended_moves w Values = record { vars = refl; taken = refl; next = tt }
+unended_moves : {N I : Type 0} (w : LratOf) (kind : LitList) → Moves machine N I w.vars w.taken (unended w kind)
+unended_moves w Clause = fails_moves w BadLine
+unended_moves w Values = goes_moves w (Start true) tt
 
-end_line_moves : (w : LratOf) (m : Mode) → Next w.vars w.taken m → Moves w (end_line w m)
-end_line_moves w (Start amid) n = quiet_moves w (Start amid) tt
-end_line_moves w (Skip amid) n = quiet_moves w (Start amid) tt
-end_line_moves w ValuesHead n = quiet_moves w (Start true) tt
-end_line_moves w StatusHead n = quiet_moves w (Start false) tt
-end_line_moves w StatusGap n = quiet_moves w (Start false) tt
-end_line_moves w (Spelled k) n = quiet_moves w (Start false) tt
-end_line_moves w Whole n = record { vars = refl; taken = refl; next = tt }
-end_line_moves w (InId k) n = fails_moves w BadLine
-end_line_moves w AfterId n = fails_moves w BadLine
-end_line_moves w DeletionHead n = fails_moves w BadLine
-end_line_moves w (InLits kind part) n = unended_moves w kind
-end_line_moves w (InIds kind part) n = fails_moves w BadLine
-end_line_moves w Closed n = quiet_moves w (Start false) tt
-end_line_moves w (Bad f) n = quiet_moves w (Bad f) n
+end_line_moves : (w : LratOf) (m : Mode) → Moves machine (Next machine w.vars w.taken m) (Unit {0}) w.vars w.taken (end_line w m)
+end_line_moves w (Start amid) = goes_moves w (Start amid) tt
+end_line_moves w (Skip amid) = goes_moves w (Start amid) tt
+end_line_moves w ValuesHead = goes_moves w (Start true) tt
+end_line_moves w StatusHead = goes_moves w (Start false) tt
+end_line_moves w StatusGap = goes_moves w (Start false) tt
+end_line_moves w (Spelled k) = goes_moves w (Start false) tt
+end_line_moves w Whole = record { keeps = refl; counts = refl; next = λ _. inl tt; said = λ _. tt }
+end_line_moves w (InId k) = fails_moves w BadLine
+end_line_moves w AfterId = fails_moves w BadLine
+end_line_moves w DeletionHead = fails_moves w BadLine
+end_line_moves w (InLits kind part) = unended_moves w kind
+end_line_moves w (InIds kind part) = fails_moves w BadLine
+end_line_moves w Closed = goes_moves w (Start false) tt
+end_line_moves w (Bad f) = quiet_moves w (Bad f) (λ n. n)
 
-after_moves : (w : LratOf) (t : Turn) → Moves w t → Moves w (feed_after t)
-after_moves w t h =
-    let n : Next t.to.vars t.to.taken t.to.mode = subst (λ z. Next z t.to.taken t.to.mode) (sym h.vars) (subst (λ z. Next w.vars z t.to.mode) (sym h.taken) h.next) in
-    let k = end_line_moves t.to t.to.mode n in
-    record {
-      vars = k.vars ∙ h.vars;
-      taken = k.taken ∙ h.taken;
-      next = subst (λ z. Next z w.taken (end_line t.to t.to.mode).to.mode) h.vars (subst (λ z. Next t.to.vars z (end_line t.to t.to.mode).to.mode) h.taken k.next);
-    }
+digit_moves : {N I : Type 0} (w : LratOf) (kind : LitList) (negated : Bool) (n b : ℕ) → Moves machine N I w.vars w.taken (visible_digit w kind negated n b)
+digit_moves w kind negated n b = either machine (goes_on w.vars n b) _ _ (goes_moves w (InLits kind (Digits (literal (with_digit n b) negated))) tt) (fails_moves w BadLiteral)
 
-digit_moves : (w : LratOf) (kind : LitList) (negated : Bool) (n b : ℕ) → Moves w (visible_digit w kind negated n b)
-digit_moves w kind negated n b =
-    elim (cases_Bool (goes_on w.vars n b)) [
-      | inl t ↦ rw t (quiet_moves w (InLits kind (Digits (literal (with_digit n b) negated))) tt)
-      | inr f ↦ rw f (fails_moves w BadLiteral)
-    ]
-
-first_moves : (w : LratOf) (kind : LitList) (b : ℕ) → Moves w (visible_first w kind b)
+first_moves : {N I : Type 0} (w : LratOf) (kind : LitList) (b : ℕ) → Moves machine N I w.vars w.taken (visible_first w kind b)
 first_moves w kind b =
-    elim (cases_Bool (eqb b 48)) [
-      | inl t ↦ rw t (quiet_moves w (InLits kind Zero) tt)
-      | inr f ↦ rw f (elim (cases_Bool (begins_literal w.vars b)) [
-        | inr g ↦ rw g (fails_moves w BadLiteral)
-        | inl g ↦ let room = minus_room w.vars b g in rw g (elim (cases_Bool (leb w.vars (length w.lits))) [
-          | inl t ↦ rw t (fails_moves w LineTooLong)
-          | inr h ↦ rw h (elim (cases_Bool (eqb b 45)) [ inl t ↦ let n = room t in rw t (quiet_moves w (InLits kind Minus) n) | inr i ↦ rw i (digit_moves w kind false 0 b) ])
-        ])
-      ])
-    ]
+    either machine (eqb b 48) _ _ (goes_moves w (InLits kind Zero) tt)
+    (by_case machine (not (begins_literal w.vars b)) _ _ (λ _. fails_moves w BadLiteral)
+    (λ g. either machine (leb w.vars (length w.lits)) _ _ (fails_moves w LineTooLong)
+    (by_case machine (eqb b 45) _ _ (λ t. goes_moves w (InLits kind Minus) (minus_room w.vars b (not_false (begins_literal w.vars b) g) t)) (λ _. digit_moves w kind false 0 b))))
 
-part_moves : (w : LratOf) (kind : LitList) (part : Part) (b : ℕ) → Moves w (visible_part w kind part b)
+part_moves : {N I : Type 0} (w : LratOf) (kind : LitList) (part : Part) (b : ℕ) → Moves machine N I w.vars w.taken (visible_part w kind part b)
 part_moves w kind Gap b = first_moves w kind b
 part_moves w kind Minus b = digit_moves w kind true 0 b
 part_moves w kind Zero b = fails_moves w BadLiteral
 part_moves w kind (Digits l) b = digit_moves w kind l.negated l.var b
 
-id_digit_moves : (w : LratOf) (kind : IdList) (negated : Bool) (place n b : ℕ) → Moves w (id_digit w kind negated place n b)
+id_digit_moves : {N I : Type 0} (w : LratOf) (kind : IdList) (negated : Bool) (place n b : ℕ) → Moves machine N I w.vars w.taken (id_digit w kind negated place n b)
 id_digit_moves w kind negated place n b =
-    elim (cases_Bool (id_goes_on n b)) [
-      | inl t ↦ rw t (quiet_moves w (InIds kind (IdDigits (hint (with_digit n b) negated place))) tt)
-      | inr f ↦ rw f (fails_moves w BadLiteral)
-    ]
+    either machine (id_goes_on n b) _ _ (goes_moves w (InIds kind (IdDigits (hint (with_digit n b) negated place))) tt) (fails_moves w BadLiteral)
 
-id_first_moves : (w : LratOf) (kind : IdList) (b : ℕ) → Moves w (id_first w kind b)
+id_first_moves : {N I : Type 0} (w : LratOf) (kind : IdList) (b : ℕ) → Moves machine N I w.vars w.taken (id_first w kind b)
 id_first_moves w kind b =
-    elim (cases_Bool (eqb b 48)) [
-      | inl t ↦ rw t (quiet_moves w (InIds kind IdZero) tt)
-      | inr f ↦ rw f (elim (cases_Bool (begins_id kind b)) [
-        | inr g ↦ rw g (fails_moves w BadLiteral)
-        | inl g ↦ rw g (elim (cases_Bool (leb most_hints (length w.hints))) [
-          | inl t ↦ rw t (fails_moves w LineTooLong)
-          | inr h ↦ rw h (elim (cases_Bool (eqb b 45)) [ inl t ↦ rw t (quiet_moves w (InIds kind (IdMinus w.taken)) tt) | inr i ↦ rw i (id_digit_moves w kind false w.taken 0 b) ])
-        ])
-      ])
-    ]
+    either machine (eqb b 48) _ _ (goes_moves w (InIds kind IdZero) tt) (either machine (not (begins_id kind b)) _ _ (fails_moves w BadLiteral)
+    (either machine (leb most_hints (length w.hints)) _ _ (fails_moves w LineTooLong)
+    (either machine (eqb b 45) _ _ (goes_moves w (InIds kind (IdMinus w.taken)) tt) (id_digit_moves w kind false w.taken 0 b))))
 
-id_part_moves : (w : LratOf) (kind : IdList) (part : IdPart) (b : ℕ) → Moves w (id_part w kind part b)
+id_part_moves : {N I : Type 0} (w : LratOf) (kind : IdList) (part : IdPart) (b : ℕ) → Moves machine N I w.vars w.taken (id_part w kind part b)
 id_part_moves w kind IdGap b = id_first_moves w kind b
 id_part_moves w kind (IdMinus place) b = id_digit_moves w kind true place 0 b
 id_part_moves w kind IdZero b = fails_moves w BadLiteral
 id_part_moves w kind (IdDigits h) b = id_digit_moves w kind h.negated h.place h.id b
 
-own_moves : (w : LratOf) (n b : ℕ) → Moves w (own_digit w n b)
-own_moves w n b = elim (cases_Bool (id_goes_on n b)) [ inl t ↦ rw t (quiet_moves w (InId (with_digit n b)) tt) | inr f ↦ rw f (fails_moves w BadLiteral) ]
+own_moves : {N I : Type 0} (w : LratOf) (n b : ℕ) → Moves machine N I w.vars w.taken (own_digit w n b)
+own_moves w n b = either machine (id_goes_on n b) _ _ (goes_moves w (InId (with_digit n b)) tt) (fails_moves w BadLiteral)
 
-after_id_moves : (w : LratOf) (b : ℕ) → Moves w (visible_after_id w b)
-after_id_moves w b = elim (cases_Bool (eqb b 100)) [ inl t ↦ rw t (quiet_moves w DeletionHead tt) | inr f ↦ rw f (first_moves w Clause b) ]
+after_id_moves : {N I : Type 0} (w : LratOf) (b : ℕ) → Moves machine N I w.vars w.taken (visible_after_id w b)
+after_id_moves w b = either machine (eqb b 100) _ _ (goes_moves w DeletionHead tt) (first_moves w Clause b)
 
-plain_moves : (w : LratOf) (b : ℕ) → Moves w (visible_plain w b)
-plain_moves w b = elim (cases_Bool (eqb b 115)) [ inl t ↦ rw t (quiet_moves w StatusHead tt) | inr f ↦ rw f (other (is_digit b)) ]
-  where
-    other : (digit : Bool) → Moves w (cond digit (own_digit w 0 b) (fails w BadLine))
-    other true = own_moves w 0 b
-    other false = fails_moves w BadLine
+plain_moves : {N I : Type 0} (w : LratOf) (b : ℕ) → Moves machine N I w.vars w.taken (visible_plain w b)
+plain_moves w b = either machine (eqb b 115) _ _ (goes_moves w StatusHead tt) (either machine (is_digit b) _ _ (own_moves w 0 b) (fails_moves w BadLine))
 
-start_moves : (w : LratOf) (amid : Bool) (b : ℕ) → Moves w (visible_start w amid b)
+start_moves : {N I : Type 0} (w : LratOf) (amid : Bool) (b : ℕ) → Moves machine N I w.vars w.taken (visible_start w amid b)
 start_moves w amid b =
-    elim (cases_Bool (eqb b 99)) [
-      | inl t ↦ rw t (quiet_moves w (Skip amid) tt)
-      | inr f ↦ rw f (elim (cases_Bool (eqb b 118)) [
-        | inl t ↦ rw t (quiet_moves w ValuesHead tt)
-        | inr g ↦ rw g (other amid)
-      ])
-    ]
-  where
-    other : (amid : Bool) → Moves w (cond amid (fails w BadLine) (visible_plain w b))
-    other true = fails_moves w BadLine
-    other false = plain_moves w b
+    either machine (eqb b 99) _ _ (goes_moves w (Skip amid) tt) (either machine (eqb b 118) _ _ (goes_moves w ValuesHead tt) (either machine amid _ _ (fails_moves w BadLine) (plain_moves w b)))
 
-spelled_moves : (w : LratOf) (n b : ℕ) → Moves w (visible_spelled w n b)
+spelled_moves : {N I : Type 0} (w : LratOf) (n b : ℕ) → Moves machine N I w.vars w.taken (visible_spelled w n b)
 spelled_moves w n b =
-    elim (cases_Bool (not (leb 7 n) && eqb b (spelling n))) [ inl t ↦ rw t (quiet_moves w (Spelled (n + 1)) tt) | inr f ↦ rw f (quiet_moves w (Skip false) tt) ]
+    goes_moves w (cond (not (leb 7 n) && eqb b (spelling n)) (Spelled (n + 1)) (Skip false)) (either_going w.vars (not (leb 7 n) && eqb b (spelling n)) (Spelled (n + 1)) (Skip false) tt tt)
 
-visible_moves : (w : LratOf) (m : Mode) (b : ℕ) → Going w.vars m → Moves w (visible w m b)
-visible_moves w (Start amid) b n = let k = start_moves (emptied w) amid b in record { vars = k.vars; taken = k.taken; next = k.next }
-visible_moves w (Skip amid) b n = quiet_moves w (Skip amid) tt
-visible_moves w ValuesHead b n = fails_moves w BadLine
-visible_moves w StatusHead b n = fails_moves w BadLine
-visible_moves w StatusGap b n = spelled_moves w 0 b
-visible_moves w (Spelled k) b n = spelled_moves w k b
-visible_moves w Whole b n = quiet_moves w (Skip false) tt
-visible_moves w (InId k) b n = own_moves w k b
-visible_moves w AfterId b n = after_id_moves w b
-visible_moves w DeletionHead b n = fails_moves w BadLine
-visible_moves w (InLits kind part) b n = part_moves w kind part b
-visible_moves w (InIds kind part) b n = id_part_moves w kind part b
-visible_moves w Closed b n = fails_moves w BadLine
-visible_moves w (Bad f) b n = absurd n
+visible_moves : {I : Type 0} (w : LratOf) (m : Mode) (b : ℕ) → Moves machine (Going w.vars m) I w.vars w.taken (visible w m b)
+visible_moves w (Start amid) b = start_moves (emptied w) amid b
+visible_moves w (Skip amid) b = stays_moves w (Skip amid)
+visible_moves w ValuesHead b = fails_moves w BadLine
+visible_moves w StatusHead b = fails_moves w BadLine
+visible_moves w StatusGap b = spelled_moves w 0 b
+visible_moves w (Spelled k) b = spelled_moves w k b
+visible_moves w Whole b = goes_moves w (Skip false) tt
+visible_moves w (InId k) b = own_moves w k b
+visible_moves w AfterId b = after_id_moves w b
+visible_moves w DeletionHead b = fails_moves w BadLine
+visible_moves w (InLits kind part) b = part_moves w kind part b
+visible_moves w (InIds kind part) b = id_part_moves w kind part b
+visible_moves w Closed b = fails_moves w BadLine
+visible_moves w (Bad f) b = stays_moves w (Bad f)
 
-read_moves : (w : LratOf) (b : ℕ) → Going w.vars w.mode → Moves w (read w b)
-read_moves w b n =
-    elim (cases_Bool (eqb b 10)) [
-      | inl t ↦ rw t (after_moves w (end_word w w.mode) (end_word_moves w w.mode n))
-      | inr f ↦ rw f (elim (cases_Bool (is_blank b)) [ inl t ↦ rw t (end_word_moves w w.mode n) | inr g ↦ rw g (visible_moves w w.mode b n) ])
-    ]
+read_moves : (w : LratOf) (b : ℕ) → Moves machine (Going w.vars w.mode) (IsModeWithin w.vars w.mode) w.vars w.taken (read w b)
+read_moves w b =
+    let t : Turn = end_word w w.mode in
+    let h = end_word_moves w w.mode in
+    either machine (eqb b 10) (feed_after t) (cond (is_blank b) t (visible w w.mode b)) (in_turn machine t (end_line t.to t.to.mode) (feed_after t) refl refl h (end_line_moves t.to t.to.mode))
+    (either machine (is_blank b) t (visible w w.mode b) h (visible_moves w w.mode b))
 
 -- a byte keeps the variables, and goes on or is at fault
 pub turn_next : (w : LratOf) (b : ℕ) → Going w.vars w.mode
     → ((turn w b).to.vars ≡ w.vars) × (Going w.vars (turn w b).to.mode ⊎ ((f : ParseFault) × ((turn w b).to.mode ≡ Bad f) × (f.byte ≡ w.taken)))
-turn_next w b n = let k = read_moves w b n in (k.vars, going_or_bad w.vars w.taken (turn w b).to.mode k.next)
+turn_next w b n = let k = read_moves w b in (k.keeps, k.next n)
+
+pub read_said : (w v : LratOf) (b : ℕ) (event : Option Event) → IsModeWithin w.vars w.mode → (let t : Turn = record { to = v; event = event } in t) ≡ read w b
+    → (v.vars ≡ w.vars) × IsEventWithin w.vars event
+read_said w v b event i e = kept_within machine (read w b) (record { to = v; event = event }) e (read_moves w b) i
 
 -- bytes that end the line without a fault
 pub record Completes (w : LratOf) : Type 0 where

@@ -42,46 +42,31 @@ module _ (vars taken place : ℕ) (line : Kept) (b : ℕ) (h : eqb b 10 ≡ fals
   spelled_stays : (n : ℕ) → Still (cond (not (leb 7 n) && eqb b (spelling n)) (Spelled (n + 1)) (Skip false))
   spelled_stays n = still_either (not (leb 7 n) && eqb b (spelling n)) (Spelled (n + 1)) (Skip false) tt tt
 
-  still_turn : (m : Mode) → Still m → Stays (turn (parser vars taken place m line) b)
+  -- such a mode stays, says nothing and takes no memory
+  still_turn : (m : Mode) → Still m → Stays (turn (parser vars taken place m line) b) × (is_in_number m ≡ false)
   still_turn (Start amid) s = absurd s
-  still_turn (Skip amid) s = by_blank (Skip amid) (λ t. rw (h, t) (tt, refl)) (λ f. rw (h, f) (tt, refl))
+  still_turn (Skip amid) s = (by_blank (Skip amid) (λ t. rw (h, t) (tt, refl)) (λ f. rw (h, f) (tt, refl)), refl)
   still_turn ValuesHead s = absurd s
-  still_turn StatusHead s = by_blank StatusHead (λ t. rw (h, t) (tt, refl)) (λ f. rw (h, f) (tt, refl))
-  still_turn StatusGap s = by_blank StatusGap (λ t. rw (h, t) (tt, refl)) (λ f. rw (h, f) (spelled_stays 0, refl))
-  still_turn (Spelled n) s = by_blank (Spelled n) (λ t. rw (h, t) (still_either (eqb n 7) Whole (Skip false) tt tt, refl)) (λ f. rw (h, f) (spelled_stays n, refl))
-  still_turn Whole s = by_blank Whole (λ t. rw (h, t) (tt, refl)) (λ f. rw (h, f) (tt, refl))
+  still_turn StatusHead s = (by_blank StatusHead (λ t. rw (h, t) (tt, refl)) (λ f. rw (h, f) (tt, refl)), refl)
+  still_turn StatusGap s = (by_blank StatusGap (λ t. rw (h, t) (tt, refl)) (λ f. rw (h, f) (spelled_stays 0, refl)), refl)
+  still_turn (Spelled n) s = (by_blank (Spelled n) (λ t. rw (h, t) (still_either (eqb n 7) Whole (Skip false) tt tt, refl)) (λ f. rw (h, f) (spelled_stays n, refl)), refl)
+  still_turn Whole s = (by_blank Whole (λ t. rw (h, t) (tt, refl)) (λ f. rw (h, f) (tt, refl)), refl)
   still_turn (InId n) s = absurd s
   still_turn AfterId s = absurd s
   still_turn DeletionHead s = absurd s
   still_turn (InLits kind part) s = absurd s
   still_turn (InIds kind part) s = absurd s
   still_turn Closed s = absurd s
-  still_turn (Bad f) s = by_blank (Bad f) (λ t. rw (h, t) (tt, refl)) (λ g. rw (h, g) (tt, refl))
-
-not_in_number : (m : Mode) → Still m → is_in_number m ≡ true → ⊥
-not_in_number (Start amid) s e = s
-not_in_number (Skip amid) s e = cc
-not_in_number ValuesHead s e = s
-not_in_number StatusHead s e = cc
-not_in_number StatusGap s e = cc
-not_in_number (Spelled n) s e = cc
-not_in_number Whole s e = cc
-not_in_number (InId n) s e = s
-not_in_number AfterId s e = s
-not_in_number DeletionHead s e = s
-not_in_number (InLits kind part) s e = s
-not_in_number (InIds kind part) s e = s
-not_in_number Closed s e = s
-not_in_number (Bad f) s e = cc
+  still_turn (Bad f) s = (by_blank (Bad f) (λ t. rw (h, t) (tt, refl)) (λ g. rw (h, g) (tt, refl)), refl)
 
 not_told : (o : Option Event) → o ≡ None → (e : Event) × (o ≡ Some e) → ⊥
 not_told o n (e, k) = let q : None ≡ Some e = sym n ∙ k in cc
 
 still_text : (t : List ℕ) (w : LratOf) → NoFeed t → Still w.mode → TakesMemory w t → ⊥
 still_text [] w n s k = k
-still_text (b ∷ bs) w (n, ns) s (inl k) = not_in_number w.mode s k
-still_text (b ∷ bs) w (n, ns) s (inr (inl k)) = not_told (turn w b).event (still_turn w.vars w.taken w.place (kept w.id w.lits w.hints) b n w.mode s).1 k
-still_text (b ∷ bs) w (n, ns) s (inr (inr k)) = still_text bs (turn w b).to ns (still_turn w.vars w.taken w.place (kept w.id w.lits w.hints) b n w.mode s).0 k
+still_text (b ∷ bs) w (n, ns) s (inl k) = let q : true ≡ false = sym k ∙ (still_turn w.vars w.taken w.place (kept w.id w.lits w.hints) b n w.mode s).1 in cc
+still_text (b ∷ bs) w (n, ns) s (inr (inl k)) = not_told (turn w b).event (still_turn w.vars w.taken w.place (kept w.id w.lits w.hints) b n w.mode s).0.1 k
+still_text (b ∷ bs) w (n, ns) s (inr (inr k)) = still_text bs (turn w b).to ns (still_turn w.vars w.taken w.place (kept w.id w.lits w.hints) b n w.mode s).0.0 k
 
 -- c or s
 first_still : (vars taken place : ℕ) (line : Kept) (amid : Bool) (b : ℕ) → (b ≡ 99) ⊎ (b ≡ 115) → Stays (turn (parser vars taken place (Start amid) line) b)

@@ -1,6 +1,7 @@
 -- What bytes say, one after the other, and what is said at their end.
-use Rattle.std.proofs.Common.{◌≡◌, ℕ, ◌+◌, Bool, true, false, cond, ◌&&◌, eqb, List, [], ◌∷◌, ◌++◌, refl, ap, sym, ◌∙◌, inl, inr, append_assoc}
+use Rattle.std.proofs.Common.{◌≡◌, ℕ, ◌+◌, Bool, cond, ◌&&◌, eqb, List, [], ◌∷◌, ◌++◌, refl, ap, sym, ◌∙◌, inl, inr, append_assoc}
 use Rattle.std.proofs.lemmas.Bool.{cases_Bool}
+use Rattle.std.proofs.lemmas.List.{append-nil}
 use Rattle.cert_stream.specs.Text.{is_blank}
 use Rattle.cert_stream.specs.declared.mode.ParseFault.{ParseFault}
 use Rattle.cert_stream.specs.declared.mode.Part.{Part}
@@ -17,6 +18,7 @@ use Rattle.cert_stream.specs.declared.lrat.mode.IdPart.TheVariants.{Gap as IdGap
 use Rattle.cert_stream.specs.declared.lrat.mode.Mode.{Mode}
 use Rattle.cert_stream.specs.declared.lrat.mode.Mode.TheVariants.{Start, Skip, ValuesHead, StatusHead, StatusGap, Spelled, Whole, InId, AfterId, DeletionHead, InLits, InIds, Closed, Bad}
 use Rattle.cert_stream.proofs.LratTurning.{Kept, kept, nothing, parser}
+use Rattle.cert_stream.proofs.Speaking.{none_last}
 
 -- what is said at the end, mode by mode
 abbrev pub last_lits : Bool → LitList → Part → List LratSaying
@@ -54,49 +56,28 @@ speak ended w (b ∷ bs) = told_by (turn w b).to (turn w b).event ++ speak ended
 
 last_is : (ended : Bool) (vars taken place : ℕ) (line : Kept) (mode : Mode)
     → last_of ended place (kept line.id line.lits line.hints) mode ≡ cond ended (told_by (parser vars taken place mode line) (at_end mode)) [] ++ fault_said (fault_of mode)
-last_is true vars taken place line (Start amid) = refl
-last_is true vars taken place line (Skip amid) = refl
-last_is true vars taken place line ValuesHead = refl
-last_is true vars taken place line StatusHead = refl
-last_is true vars taken place line StatusGap = refl
-last_is true vars taken place line (Spelled n) = elim (cases_Bool (eqb n 7)) [ inl t ↦ rw t refl | inr f ↦ rw f refl ]
-last_is true vars taken place line Whole = refl
-last_is true vars taken place line (InId n) = refl
-last_is true vars taken place line AfterId = refl
-last_is true vars taken place line DeletionHead = refl
-last_is true vars taken place line (InLits Clause part) = refl
-last_is true vars taken place line (InLits Values Gap) = refl
-last_is true vars taken place line (InLits Values Minus) = refl
-last_is true vars taken place line (InLits Values Zero) = refl
-last_is true vars taken place line (InLits Values (Digits l)) = refl
-last_is true vars taken place line (InIds kind IdGap) = refl
-last_is true vars taken place line (InIds kind (IdMinus at)) = refl
-last_is true vars taken place line (InIds Hints IdZero) = refl
-last_is true vars taken place line (InIds Deletion IdZero) = refl
-last_is true vars taken place line (InIds kind (IdDigits h)) = refl
-last_is true vars taken place line Closed = refl
-last_is true vars taken place line (Bad f) = refl
-last_is false vars taken place line (Start amid) = refl
-last_is false vars taken place line (Skip amid) = refl
-last_is false vars taken place line ValuesHead = refl
-last_is false vars taken place line StatusHead = refl
-last_is false vars taken place line StatusGap = refl
-last_is false vars taken place line (Spelled n) = elim (cases_Bool (eqb n 7)) [ inl t ↦ rw t refl | inr f ↦ rw f refl ]
-last_is false vars taken place line Whole = refl
-last_is false vars taken place line (InId n) = refl
-last_is false vars taken place line AfterId = refl
-last_is false vars taken place line DeletionHead = refl
-last_is false vars taken place line (InLits Clause part) = refl
-last_is false vars taken place line (InLits Values Gap) = refl
-last_is false vars taken place line (InLits Values Minus) = refl
-last_is false vars taken place line (InLits Values Zero) = refl
-last_is false vars taken place line (InLits Values (Digits l)) = refl
-last_is false vars taken place line (InIds kind IdGap) = refl
-last_is false vars taken place line (InIds kind (IdMinus at)) = refl
-last_is false vars taken place line (InIds kind IdZero) = refl
-last_is false vars taken place line (InIds kind (IdDigits h)) = refl
-last_is false vars taken place line Closed = refl
-last_is false vars taken place line (Bad f) = refl
+last_is ended vars taken place line (Start amid) = none_last ended []
+last_is ended vars taken place line (Skip amid) = none_last ended []
+last_is ended vars taken place line ValuesHead = none_last ended []
+last_is ended vars taken place line StatusHead = none_last ended []
+last_is ended vars taken place line StatusGap = none_last ended []
+last_is ended vars taken place line (Spelled n) = elim (cases_Bool (eqb n 7)) [ inl t ↦ rw t (sym (append-nil (cond ended (IsUnknown ∷ []) []))) | inr f ↦ rw f (none_last ended []) ]
+last_is ended vars taken place line Whole = sym (append-nil _)
+last_is ended vars taken place line (InId n) = none_last ended []
+last_is ended vars taken place line AfterId = none_last ended []
+last_is ended vars taken place line DeletionHead = none_last ended []
+last_is ended vars taken place line (InLits Clause part) = none_last ended []
+last_is ended vars taken place line (InLits Values Gap) = none_last ended []
+last_is ended vars taken place line (InLits Values Minus) = none_last ended []
+last_is ended vars taken place line (InLits Values Zero) = sym (append-nil _)
+last_is ended vars taken place line (InLits Values (Digits l)) = none_last ended []
+last_is ended vars taken place line (InIds kind IdGap) = none_last ended []
+last_is ended vars taken place line (InIds kind (IdMinus at)) = none_last ended []
+last_is ended vars taken place line (InIds Hints IdZero) = sym (append-nil _)
+last_is ended vars taken place line (InIds Deletion IdZero) = sym (append-nil _)
+last_is ended vars taken place line (InIds kind (IdDigits h)) = none_last ended []
+last_is ended vars taken place line Closed = none_last ended []
+last_is ended vars taken place line (Bad f) = none_last ended (IsFault f ∷ [])
 
 pub speak_is : (ended : Bool) (w : LratOf) (bytes : List ℕ) → speak ended w bytes ≡ spoken ended w bytes
 speak_is ended w [] = last_is ended w.vars w.taken w.place (kept w.id w.lits w.hints) w.mode

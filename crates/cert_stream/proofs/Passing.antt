@@ -32,45 +32,26 @@ no_feed_take (b ∷ bytes) zero h f = tt
 no_feed_take (b ∷ bytes) (suc n) h f =
     (elim (cases_Bool (eqb b 10)) [ inl t ↦ absurd (f 0 (omega arith) (omega arith) t) | inr g ↦ g ], no_feed_take bytes n (omega arith) (λ k l m e. f (suc k) (omega arith) (omega arith) e))
 
-module _ (vars taken place : ℕ) (amid : Bool) (lits : List LitOf) (bytes : List ℕ) (n : ℕ) (l : n ≤ length bytes) (h' : NoFeed (take n bytes)) where
-  pub passed_after : after (record { vars = vars; taken = taken + n; place = place; mode = Skip amid; lits = lits }) (drop n bytes)
-      ≡ after (record { vars = vars; taken = taken; place = place; mode = Skip amid; lits = lits }) bytes
-  passed_after =
-      let w : DrupOf = record { vars = vars; taken = taken; place = place; mode = Skip amid; lits = lits } in
-      let s = skip_after vars place amid lits (take n bytes) taken h' in
-      let len : taken + length (take n bytes) ≡ taken + n = ap (λ k. taken + k) (length-take-le n bytes l) in
-      sym (ap (after w) (sym (take-append-drop n bytes)) ∙ after_append w (take n bytes) (drop n bytes)
-      ∙ ap (λ v. after v (drop n bytes)) (s.0 ∙ ap (λ k. let v : DrupOf = record { vars = vars; taken = k; place = place; mode = Skip amid; lits = lits } in v) len))
-
-  pub passed_said : said (record { vars = vars; taken = taken + n; place = place; mode = Skip amid; lits = lits }) (drop n bytes)
-      ≡ said (record { vars = vars; taken = taken; place = place; mode = Skip amid; lits = lits }) bytes
-  passed_said =
-      let w : DrupOf = record { vars = vars; taken = taken; place = place; mode = Skip amid; lits = lits } in
-      let s = skip_after vars place amid lits (take n bytes) taken h' in
-      let len : taken + length (take n bytes) ≡ taken + n = ap (λ k. taken + k) (length-take-le n bytes l) in
-      sym (ap (said w) (sym (take-append-drop n bytes)) ∙ said_append w (take n bytes) (drop n bytes)
-      ∙ ap (λ z. z ++ said (after w (take n bytes)) (drop n bytes)) s.1
-      ∙ ap (λ v. said v (drop n bytes)) (s.0 ∙ ap (λ k. let v : DrupOf = record { vars = vars; taken = k; place = place; mode = Skip amid; lits = lits } in v) len))
-
-  pub passed_memory : TakesMemory (record { vars = vars; taken = taken + n; place = place; mode = Skip amid; lits = lits }) (drop n bytes)
-      → TakesMemory (record { vars = vars; taken = taken; place = place; mode = Skip amid; lits = lits }) bytes
-  passed_memory h =
-      let w : DrupOf = record { vars = vars; taken = taken; place = place; mode = Skip amid; lits = lits } in
-      let s = skip_after vars place amid lits (take n bytes) taken h' in
-      let len : taken + length (take n bytes) ≡ taken + n = ap (λ k. taken + k) (length-take-le n bytes l) in
-      let e : after w (take n bytes) ≡ record { vars = vars; taken = taken + n; place = place; mode = Skip amid; lits = lits } =
-      s.0 ∙ ap (λ k. let v : DrupOf = record { vars = vars; taken = k; place = place; mode = Skip amid; lits = lits } in v) len in
-      subst (TakesMemory w) (take-append-drop n bytes) (memory_append w (take n bytes) (drop n bytes) (subst (λ (z : DrupOf). TakesMemory z (drop n bytes)) (sym e) h))
-
-module _ (vars taken place : ℕ) (mode : Mode) (amid : Bool) (lits : List LitOf) (bytes : List ℕ) (n : ℕ) (m : mode ≡ Skip amid) (l : n ≤ length bytes) (h : NoFeed (take n bytes)) where
+module _ (vars taken place : ℕ) (lits : List LitOf) (bytes : List ℕ) (n : ℕ) (l : n ≤ length bytes) (h : NoFeed (take n bytes)) where
   abbrev at : Mode → ℕ → DrupOf
-  at m k = record { vars = vars; taken = k; place = place; mode = m; lits = lits }
+  at m k = parser vars k place m lits
 
-  pub passed_after_in : after (at mode (taken + n)) (drop n bytes) ≡ after (at mode taken) bytes
-  passed_after_in = subst (λ m. after (at m (taken + n)) (drop n bytes) ≡ after (at m taken) bytes) (sym m) (passed_after vars taken place amid lits bytes n l h)
+  -- from here on, or from behind these bytes
+  abbrev Passed : Mode → Type 0
+  Passed m =
+      (after (at m (taken + n)) (drop n bytes) ≡ after (at m taken) bytes) × (said (at m (taken + n)) (drop n bytes) ≡ said (at m taken) bytes)
+      × (TakesMemory (at m (taken + n)) (drop n bytes) → TakesMemory (at m taken) bytes)
 
-  pub passed_said_in : said (at mode (taken + n)) (drop n bytes) ≡ said (at mode taken) bytes
-  passed_said_in = subst (λ m. said (at m (taken + n)) (drop n bytes) ≡ said (at m taken) bytes) (sym m) (passed_said vars taken place amid lits bytes n l h)
+  skip_passed : (amid : Bool) → Passed (Skip amid)
+  skip_passed amid =
+      let w : DrupOf = at (Skip amid) taken in
+      let s = skip_after vars place amid lits (take n bytes) taken h in
+      let e : after w (take n bytes) ≡ at (Skip amid) (taken + n) = s.0 ∙ ap (λ k. at (Skip amid) (taken + k)) (length-take-le n bytes l) in
+      let whole : take n bytes ++ drop n bytes ≡ bytes = take-append-drop n bytes in (
+        sym (ap (λ v. after v (drop n bytes)) e) ∙ sym (after_append w (take n bytes) (drop n bytes)) ∙ ap (after w) whole,
+        sym (ap (λ v. said v (drop n bytes)) e) ∙ sym (ap (λ z. z ++ said (after w (take n bytes)) (drop n bytes)) s.1) ∙ sym (said_append w (take n bytes) (drop n bytes)) ∙ ap (said w) whole,
+        λ k. subst (TakesMemory w) whole (memory_append w (take n bytes) (drop n bytes) (subst (λ (z : DrupOf). TakesMemory z (drop n bytes)) (sym e) k)),
+      )
 
-  pub passed_memory_in : TakesMemory (at mode (taken + n)) (drop n bytes) → TakesMemory (at mode taken) bytes
-  passed_memory_in = subst (λ m. TakesMemory (at m (taken + n)) (drop n bytes) → TakesMemory (at m taken) bytes) (sym m) (passed_memory vars taken place amid lits bytes n l h)
+  pub passed : (mode : Mode) (amid : Bool) → mode ≡ Skip amid → Passed mode
+  passed mode amid m = subst Passed (sym m) (skip_passed amid)

@@ -218,10 +218,6 @@ module _ (vars : ℕ) (amid fed : Bool) (feed : ℕ) (words : List Word) (f : Pa
   line_reason (w ∷ ws) e t h = visible_reason w ws e t h
 
 module _ (vars : ℕ) (ended : Bool) (f : ParseFault) where
-  none_amid : (amid : Bool) → HasFault (cond amid [] []) f → ⊥
-  none_amid true h = none_fault f h
-  none_amid false h = none_fault f h
-
   -- in the last line
   last_reason : (front bytes : List ℕ) → NoFeed bytes → lines_of bytes ≡ bytes ∷ [] → AreLines front → HasNoFault (sayings vars false front) → HasFault (sayings vars ended (front ++ bytes)) f
       → HasReason vars ended (front ++ bytes) f

@@ -1,6 +1,7 @@
 -- What bytes say, one after the other, and what is said at their end.
 use Rattle.std.proofs.Common.{◌≡◌, ℕ, ◌+◌, Bool, true, false, cond, ◌&&◌, eqb, List, [], ◌∷◌, ◌++◌, refl, ap, sym, ◌∙◌, inl, inr, append_assoc}
 use Rattle.std.proofs.lemmas.Bool.{cases_Bool}
+use Rattle.std.proofs.lemmas.List.{append-nil}
 use Rattle.cnf_form.specs.Cnf.{LitOf}
 use Rattle.cert_stream.specs.Text.{is_blank}
 use Rattle.cert_stream.specs.Machine.{DrupOf, turn, at_end, fault_of}
@@ -39,42 +40,29 @@ abbrev pub speak : Bool → DrupOf → List ℕ → List Saying
 speak ended w [] = last_of ended w.place w.lits w.mode
 speak ended w (b ∷ bs) = told_by (turn w b).to (turn w b).event ++ speak ended (turn w b).to bs
 
-none_last : (ended : Bool) → cond ended (let e : List Saying = [] in e) [] ++ [] ≡ (let e : List Saying = [] in e)
-none_last true = refl
-none_last false = refl
+-- where nothing counts by the end, a fault alone is said
+pub none_last : {S : Type 0} (ended : Bool) (fault : List S) → fault ≡ cond ended (let e : List S = [] in e) [] ++ fault
+none_last true fault = refl
+none_last false fault = refl
 
 last_is : (ended : Bool) (vars taken place : ℕ) (lits : List LitOf) (mode : Mode)
     → last_of ended place lits mode ≡ cond ended (told_by (parser vars taken place mode lits) (at_end mode)) [] ++ fault_said (fault_of mode)
-last_is true vars taken place lits (Start amid) = refl
-last_is true vars taken place lits (Skip amid) = refl
-last_is true vars taken place lits (Head kind) = refl
-last_is true vars taken place lits StatusHead = refl
-last_is true vars taken place lits StatusGap = refl
-last_is true vars taken place lits (Spelled n) = elim (cases_Bool (eqb n 7)) [ inl t ↦ rw t refl | inr f ↦ rw f refl ]
-last_is true vars taken place lits Whole = refl
-last_is true vars taken place lits (InList kind Gap) = refl
-last_is true vars taken place lits (InList kind Minus) = refl
-last_is true vars taken place lits (InList Clause Zero) = refl
-last_is true vars taken place lits (InList Deletion Zero) = refl
-last_is true vars taken place lits (InList Values Zero) = refl
-last_is true vars taken place lits (InList kind (Digits l)) = refl
-last_is true vars taken place lits Closed = refl
-last_is true vars taken place lits (Bad f) = refl
-last_is true vars taken place lits Lost = refl
-last_is false vars taken place lits (Start amid) = refl
-last_is false vars taken place lits (Skip amid) = refl
-last_is false vars taken place lits (Head kind) = refl
-last_is false vars taken place lits StatusHead = refl
-last_is false vars taken place lits StatusGap = refl
-last_is false vars taken place lits (Spelled n) = elim (cases_Bool (eqb n 7)) [ inl t ↦ rw t refl | inr f ↦ rw f refl ]
-last_is false vars taken place lits Whole = refl
-last_is false vars taken place lits (InList kind Gap) = refl
-last_is false vars taken place lits (InList kind Minus) = refl
-last_is false vars taken place lits (InList kind Zero) = refl
-last_is false vars taken place lits (InList kind (Digits l)) = refl
-last_is false vars taken place lits Closed = refl
-last_is false vars taken place lits (Bad f) = refl
-last_is false vars taken place lits Lost = refl
+last_is ended vars taken place lits (Start amid) = none_last ended []
+last_is ended vars taken place lits (Skip amid) = none_last ended []
+last_is ended vars taken place lits (Head kind) = none_last ended []
+last_is ended vars taken place lits StatusHead = none_last ended []
+last_is ended vars taken place lits StatusGap = none_last ended []
+last_is ended vars taken place lits (Spelled n) = elim (cases_Bool (eqb n 7)) [ inl t ↦ rw t (sym (append-nil (cond ended (IsUnknown ∷ []) []))) | inr f ↦ rw f (none_last ended []) ]
+last_is ended vars taken place lits Whole = sym (append-nil _)
+last_is ended vars taken place lits (InList kind Gap) = none_last ended []
+last_is ended vars taken place lits (InList kind Minus) = none_last ended []
+last_is ended vars taken place lits (InList Clause Zero) = sym (append-nil _)
+last_is ended vars taken place lits (InList Deletion Zero) = sym (append-nil _)
+last_is ended vars taken place lits (InList Values Zero) = sym (append-nil _)
+last_is ended vars taken place lits (InList kind (Digits l)) = none_last ended []
+last_is ended vars taken place lits Closed = none_last ended []
+last_is ended vars taken place lits (Bad f) = none_last ended (IsFault f ∷ [])
+last_is ended vars taken place lits Lost = none_last ended []
 
 pub speak_is : (ended : Bool) (w : DrupOf) (bytes : List ℕ) → speak ended w bytes ≡ spoken ended w bytes
 speak_is ended w [] = last_is ended w.vars w.taken w.place w.lits w.mode

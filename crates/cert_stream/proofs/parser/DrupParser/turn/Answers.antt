@@ -1,6 +1,6 @@
 use Rattle.std.proofs.Common.{ap, ◌∙◌, subst}
 use Rattle.cert_stream.specs.Machine.{DrupOf, IsModeWithin}
-use Rattle.cert_stream.proofs.Keeping.{read_said}
+use Rattle.cert_stream.proofs.Going.{read_said}
 use Rattle.cert_stream.proofs.parser.DrupParser.turn.Goals as goal
 
 pub returns-clause-vars : goal.returns-clause-vars

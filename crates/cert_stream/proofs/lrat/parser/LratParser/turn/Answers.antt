@@ -1,6 +1,6 @@
 use Rattle.std.proofs.Common.{ap, ◌∙◌, subst}
 use Rattle.cert_stream.specs.LratMachine.{LratOf, IsModeWithin}
-use Rattle.cert_stream.proofs.LratKeeping.{read_said}
+use Rattle.cert_stream.proofs.LratGoing.{read_said}
 use Rattle.cert_stream.proofs.lrat.parser.LratParser.turn.Goals as goal
 
 pub returns-clause-vars : goal.returns-clause-vars
