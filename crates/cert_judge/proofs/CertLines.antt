@@ -1,7 +1,7 @@
 -- Lines of a stream that are a certificate, up to a word 0.
-use Rattle.std.proofs.Common.{◌≡◌, ℕ, ◌≤◌, true, eqb, List, [], ◌∷◌, ◌++◌, length, take, drop, Some, refl, sym, ap, ◌∙◌, subst, inl, inr, arith}
+use Rattle.std.proofs.Common.{◌≡◌, ◌≢◌, ℕ, ◌≤◌, true, false, cond, ◌&&◌, eqb, List, [], ◌∷◌, ◌++◌, length, take, drop, Some, refl, sym, ap, ◌∙◌, subst, inl, inr, arith}
 use Rattle.std.specs.Prelude.{codes, slice_index, map}
-use Rattle.std.proofs.lemmas.Bool.{eqb-true}
+use Rattle.std.proofs.lemmas.Bool.{cases_Bool, eqb-true}
 use Rattle.std.proofs.lemmas.List.{map-append}
 use Rattle.std.proofs.lemmas.Slice.Eq.{bytes_eq-Decides}
 use Rattle.cnf_form.specs.Cnf.{LitOf, Assignment, Satisfies}
@@ -32,6 +32,16 @@ pub unknown_words : (ws : List Word) → texts ws ≡ codes "UNKNOWN" ∷ [] →
 unknown_words [] h = cc
 unknown_words (w ∷ []) h = (bytes_eq-Decides w.text (codes "UNKNOWN")).1 (let q : w.text ≡ codes "UNKNOWN" = cc in q)
 unknown_words (w ∷ v ∷ ws) h = cc
+
+not_unknown : (ws : List Word) → texts ws ≢ codes "UNKNOWN" ∷ [] → is_unknown ws ≡ false
+not_unknown [] n = refl
+not_unknown (w ∷ []) n =
+    elim (cases_Bool (is_unknown (w ∷ []))) [ inl k ↦ absurd (n (ap (λ z. z ∷ []) ((bytes_eq-Decides w.text (codes "UNKNOWN")).0 k))) | inr k ↦ k ]
+not_unknown (w ∷ v ∷ ws) n = refl
+
+-- the other words of a status line say nothing
+pub status_idle : {S : Type 0} (said : S) (more : List S) (ws : List Word) → texts ws ≢ codes "UNKNOWN" ∷ [] → cond (is_unknown ws && true) (said ∷ more) more ≡ more
+status_idle said more ws n = ap (λ b. cond (b && true) (said ∷ more) more) (not_unknown ws n)
 
 -- lines up to one's word 0, which are so
 abbrev pub Upto : (List (List (List ℕ)) → Type 0) → List (List ℕ) → Type 0

@@ -1,14 +1,13 @@
 -- A certificate is found.
-use Rattle.std.proofs.Common.{◌≡◌, ◌≢◌, ℕ, ◌+◌, ◌≤◌, Bool, true, false, cond, ◌||◌, leb, List, [], ◌∷◌, ◌++◌, length, Some, refl, sym, ap, ◌∙◌, subst, inl, inr, arith}
+use Rattle.std.proofs.Common.{◌≡◌, ℕ, ◌+◌, ◌≤◌, Bool, true, false, cond, ◌||◌, leb, List, [], ◌∷◌, ◌++◌, length, Some, refl, sym, ap, ◌∙◌, subst, inl, inr, arith}
 use Rattle.std.specs.Prelude.{codes, slice_index, map, flat_map}
-use Rattle.std.proofs.lemmas.Bool.{cases_Bool, eq-eqb, lt-leb}
+use Rattle.std.proofs.lemmas.Bool.{eq-eqb, lt-leb}
 use Rattle.std.proofs.lemmas.List.{length-append}
-use Rattle.std.proofs.lemmas.Slice.Eq.{bytes_eq-Decides}
 use Rattle.cnf_form.specs.Cnf.{LitOf, FormulaOf, Assignment, IsAdmitted, Satisfies}
 use Rattle.cert_stream.specs.Text.{Word, lines_of, words_from}
 use Rattle.cert_stream.specs.Places.{AreDone, IsList}
-use Rattle.cert_stream.specs.Telling.{Saying, IsClause, IsDelete, IsValue, IsValuesEnd}
-use Rattle.cert_stream.specs.Stream.{bad, heard_says, is_unknown, line_says, lines_say, list_says, sayings, status_says, visible_says}
+use Rattle.cert_stream.specs.Telling.{Saying, IsClause, IsDelete, IsValue, IsValuesEnd, IsUnknown}
+use Rattle.cert_stream.specs.Stream.{bad, heard_says, line_says, lines_say, list_says, sayings, visible_says}
 use Rattle.cert_stream.specs.declared.mode.ListKind.TheVariants.{Clause as ClauseList, Deletion, Values as ValuesList}
 use Rattle.cert_stream.specs.declared.mode.ParseFaultKind.TheVariants.{BadLine}
 use Rattle.cert_stream.proofs.Apart.{alone_one, list_line, literal_read, words_say}
@@ -21,6 +20,7 @@ use Rattle.cert_judge.specs.Drup.{StreamFate, SayingsFate}
 use Rattle.cert_judge.specs.Kinds.{FateOf}
 use Rattle.cert_judge.specs.declared.stream.StreamKind.TheVariants.{Drup}
 use Rattle.cert_judge.specs.DrupCert.{words, IsIdle, IsRemark, Writes, IsEnded, Leads, Names, IsCertOf}
+use Rattle.cert_judge.proofs.CertLines.{status_idle}
 use Rattle.cert_judge.proofs.DrupLines.{texts, line_texts, AreDoneBut, but_rest, done_but, done_all, ends_at, done_front, done_last, writes_read}
 use Rattle.cert_judge.proofs.Naming.{names_found}
 
@@ -50,16 +50,7 @@ module _ (vars : ℕ) (C : List (List LitOf)) (a : Answer) where
     idle_line [] i = refl
     idle_line (w ∷ ws) (inl e) = rw (eq-eqb (slice_index w.text 0) 99 e) refl
     idle_line (w ∷ ws) (inr (e, n)) =
-        ap (λ x. visible_says vars true false broken going more (slice_index x 0) w ws) e ∙ alone_one w 115 _ e ∙ unknown ws n
-      where
-        unknown : (us : List Word) → texts us ≢ codes "UNKNOWN" ∷ [] → status_says true more us ≡ more
-        unknown [] n = refl
-        unknown (u ∷ []) n =
-            elim (cases_Bool (is_unknown (u ∷ []))) [
-              | inl k ↦ absurd (n (ap (λ z. z ∷ []) ((bytes_eq-Decides u.text (codes "UNKNOWN")).0 k)))
-              | inr k ↦ rw k refl
-            ]
-        unknown (u ∷ r ∷ us) n = refl
+        ap (λ x. visible_says vars true false broken going more (slice_index x 0) w ws) e ∙ alone_one w 115 _ e ∙ status_idle IsUnknown more ws n
 
     remark_line : (amid : Bool) (ws : List Word) → IsRemark (texts ws) → line_says vars true amid broken going more ws ≡ cond amid going more
     remark_line amid [] i = refl

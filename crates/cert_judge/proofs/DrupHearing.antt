@@ -2,16 +2,16 @@
 use Rattle.std.proofs.Common.{◌≡◌, ◌≢◌, ℕ, Bool, true, false, eqb, List, [], ◌∷◌, ◌++◌, length, Option, Some, None, refl, sym, ap, subst, inl, inr, arith}
 use Rattle.std.proofs.lemmas.Bool.{eqb-true, eqb-false}
 use Rattle.cnf_form.specs.Cnf.{LitOf, FormulaOf, IsAdmitted, Deletes, Satisfies}
-use Rattle.cert_stream.specs.Telling.{Saying, IsClause, IsDelete, IsValue, IsValuesEnd, IsUnknown}
+use Rattle.cert_stream.specs.Telling.{Saying, IsClause, IsDelete, IsValuesEnd}
 use Rattle.drup_check.specs.Checking.{CheckerOf}
 use Rattle.cert_judge.specs.Certificate.{CertificateOf, with_outcome}
-use Rattle.cert_judge.specs.Drup.{SayingsFate, value_lits}
+use Rattle.cert_judge.specs.Drup.{SayingsFate}
 use Rattle.cert_judge.specs.Leading.{Leads, Tries}
 use Rattle.cert_judge.specs.Reading.{drup_meaning}
-use Rattle.cert_judge.specs.Values.{IsFirstUnsatisfied, named, named_from, values_of}
+use Rattle.cert_judge.specs.Values.{IsFirstUnsatisfied, values_of}
 use Rattle.cert_judge.specs.declared.stream.CertKind.TheVariants.{NotRup, NotSatisfying}
 use Rattle.cert_judge.specs.declared.stream.Outcome.{Outcome}
-use Rattle.cert_judge.specs.declared.stream.Outcome.TheVariants.{Refuted, Satisfied, Unknown as UnknownOutcome, Bad as BadOutcome}
+use Rattle.cert_judge.specs.declared.stream.Outcome.TheVariants.{Refuted, Satisfied, Bad as BadOutcome}
 use Rattle.cert_judge.proofs.Leading.{certificate, from_fields, settles, undecided}
 
 pub none_in : (lits : List LitOf) → eqb (length lits) 0 ≡ true → lits ≡ []
@@ -55,19 +55,6 @@ module _ (x : CertificateOf CheckerOf) (f : FormulaOf) (F : CheckerOf) (bits : L
       (subst (Leads drup_meaning (certificate f F bits None) (IsDelete lits ∷ [])) (sym (still G bits))
       (record { formula = refl; size = refl; fate = λ rest fate h. (G.clauses, d, h); values = λ rest y h. h; satisfied = λ s. cc }))
 
-  pub heard_value : (l : LitOf) (now : List Bool) → length now ≡ length bits → ((v : ℕ) → values_of now v ≡ named (values_of bits) l v) → LeadsTo (IsValue l) (certificate f F now o)
-  heard_value l now m k =
-      let same : values_of now ≡ named (values_of bits) l = λ i v. k v i in
-      by (IsValue l) (certificate f F now o)
-      (subst (Leads drup_meaning (certificate f F bits None) (IsValue l ∷ [])) (sym (still F now))
-      (record {
-        formula = refl;
-        size = m;
-        fate = λ rest fate h. subst (λ z. SayingsFate f.clauses F.clauses z rest fate) same h;
-        values = λ rest y h. subst (λ z. named_from z (value_lits rest) ≡ y) same h;
-        satisfied = λ s. cc;
-      }))
-
   pub heard_satisfied : Satisfies (values_of bits) f.clauses → LeadsTo IsValuesEnd (certificate f F bits (Some Satisfied))
   heard_satisfied s =
       by IsValuesEnd (certificate f F bits (Some Satisfied)) (record { formula = refl; size = refl; fate = λ rest fate h. inl (s, h); values = λ rest y h. h.1; satisfied = λ q. s })
@@ -76,9 +63,6 @@ module _ (x : CertificateOf CheckerOf) (f : FormulaOf) (F : CheckerOf) (bits : L
   heard_not_satisfying k u =
       by IsValuesEnd (certificate f F bits (Some (BadOutcome (record { kind = NotSatisfying; at = k }))))
       (settles drup_meaning f F F bits IsValuesEnd (BadOutcome (record { kind = NotSatisfying; at = k })) (λ q. cc) (λ rest fate h. inr (k, u, h)))
-
-  pub heard_unknown : LeadsTo IsUnknown (certificate f F bits (Some UnknownOutcome))
-  heard_unknown = by IsUnknown (certificate f F bits (Some UnknownOutcome)) (settles drup_meaning f F F bits IsUnknown UnknownOutcome (λ q. cc) (λ rest fate h. h))
 
 -- a last empty clause, where there was no outcome
 pub tries_open : (x y : CertificateOf CheckerOf) (place : ℕ) → x.outcome ≡ None → (won : Outcome) (z : CertificateOf CheckerOf) → y ≡ with_outcome z won → Leads drup_meaning x (IsClause [] place ∷ []) (with_outcome z won)

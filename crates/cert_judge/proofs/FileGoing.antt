@@ -11,7 +11,7 @@ use Rattle.cert_stream.proofs.Faults.{with_mode}
 use Rattle.cert_stream.proofs.GoingOn.{Starts}
 use Rattle.proof_stream.specs.Text.{fault_or, is_claim, text_says}
 use Rattle.proof_stream.specs.Binary.{BinaryOf, binary_told, binary_turn, spot_fault}
-use Rattle.proof_stream.specs.File.{FileOf, InText, InBinary, after, end_fault, end_says, fault, next, said, says, spoken}
+use Rattle.proof_stream.specs.File.{FileOf, InText, InBinary, after, fault, next, said, says, spoken}
 use Rattle.proof_stream.specs.declared.spot.Spot.TheVariants.{Bad as BadSpot}
 use Rattle.proof_stream.proofs.Cutting.{after_append, said_append}
 use Rattle.proof_stream.proofs.Faults.{fault_stays, mode_bad, next_stays, spot_bad}
@@ -51,10 +51,6 @@ module _ (f : ParseFault) where
   pub said_quiet : (r : FileOf) (bytes : List ℕ) → fault r ≡ Some f → said r bytes ≡ []
   said_quiet r [] e = refl
   said_quiet r (b ∷ bs) e = ap (λ z. z ++ said (next r b) bs) (quiet r b e) ∙ said_quiet (next r b) bs (next_stays f r b e)
-
-  end_quiet : (r : FileOf) → fault r ≡ Some f → (end_says r ≡ []) × (end_fault r ≡ Some f)
-  end_quiet (InText t) e = (said_quiet (InText t) (10 ∷ []) e, fault_stays (InText t) (10 ∷ []) f e)
-  end_quiet (InBinary w) e = (refl, let k : w.spot ≡ BadSpot f = spot_bad f w.spot e in rw k refl)
 
 on_by : (o : Option ParseFault) (s rest tail : List Saying) → ((f : ParseFault) → o ≡ Some f → (rest ++ tail) ≡ fault_said (Some f)) → Starts (s ++ fault_said o) ((s ++ rest) ++ tail)
 on_by None s rest tail h = (rest ++ tail, append_assoc s rest tail ∙ ap (λ z. z ++ (rest ++ tail)) (sym (append-nil s)))

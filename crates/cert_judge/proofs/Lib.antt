@@ -6,7 +6,6 @@ pub mod Numbering
 pub mod Leading
 pub mod DrupHearing
 pub mod LratHearing
-pub mod LineCalls
 pub mod KindLaws
 pub mod DrupComing
 pub mod DrupFates

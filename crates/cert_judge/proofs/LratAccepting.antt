@@ -5,16 +5,14 @@ use Rattle.std.proofs.lemmas.Bool.{cases_Bool, eq-eqb, eqb-true, lt-leb}
 use Rattle.std.proofs.lemmas.Bool.Decides.{nat_tests}
 use Rattle.std.proofs.lemmas.List.{length-append, append-nil}
 use Rattle.std.proofs.lemmas.List.Elements.{All-head, All-tail}
-use Rattle.std.proofs.lemmas.Slice.Eq.{bytes_eq-Decides}
 use Rattle.cnf_form.specs.Cnf.{LitOf, FormulaOf, Assignment, Satisfies}
 use Rattle.cert_stream.specs.Text.{Word, id_of, is_digit, lines_of, literal_of, words_from}
 use Rattle.cert_stream.specs.Places.{AreDone}
 use Rattle.cert_stream.specs.Scan.{Scanned, Reads, Misfit, scan_by}
-use Rattle.cert_stream.specs.Stream.{is_unknown}
 use Rattle.cert_stream.specs.LratMachine.{hint, most_hints}
 use Rattle.cert_stream.specs.LratScan.{own_next}
-use Rattle.cert_stream.specs.LratTelling.{LratSaying, IsClause, IsDelete, IsValue, IsValuesEnd}
-use Rattle.cert_stream.specs.LratLines.{alone, bad, heard_says, ids_ended, ids_say, line_says, lines_say, lits_ended, lits_say, named_by, named_says, sayings, status_says, visible_says}
+use Rattle.cert_stream.specs.LratTelling.{LratSaying, IsClause, IsDelete, IsValue, IsValuesEnd, IsUnknown}
+use Rattle.cert_stream.specs.LratLines.{alone, bad, heard_says, ids_ended, ids_say, line_says, lines_say, lits_ended, lits_say, named_by, named_says, sayings, visible_says}
 use Rattle.cert_stream.specs.declared.lrat.mode.Hint.{Hint}
 use Rattle.cert_stream.specs.declared.lrat.mode.LitList.{LitList}
 use Rattle.cert_stream.specs.declared.lrat.mode.LitList.TheVariants.{Clause as ClauseList, Values as ValuesList}
@@ -35,6 +33,7 @@ use Rattle.cert_judge.specs.Kinds.{FateOf}
 use Rattle.cert_judge.specs.declared.stream.StreamKind.TheVariants.{Lrat}
 use Rattle.cert_judge.specs.DrupCert.{words, IsEnded, IsIdle, IsRemark, Names, Writes}
 use Rattle.cert_judge.specs.LratCert.{AreIds, AreLive, IsAdmittedAs, IsCertOf, IsClauseLine, IsDeletionLine, IsRefutation, Leads, WriteIds, held_without}
+use Rattle.cert_judge.proofs.CertLines.{status_idle}
 use Rattle.cert_judge.proofs.DrupLines.{AreDoneBut, but_rest, done_all, done_but, done_front, ends_at, line_texts, texts}
 use Rattle.cert_judge.proofs.LratCerts.{none_heard, without_ids}
 use Rattle.cert_judge.proofs.Naming.{names_found}
@@ -61,9 +60,6 @@ but_parts : (front : List Word) (w : Word) (back : List Word) → AreDoneBut (fr
 but_parts [] w back h = (tt, h)
 but_parts (v ∷ []) w back h = ((h.0, tt), h.1)
 but_parts (v ∷ u ∷ front) w back h = let k = but_parts (u ∷ front) w back h.1 in ((h.0, k.0), k.1)
-
-but_first : (w v : Word) (ws : List Word) → AreDoneBut (w ∷ v ∷ ws) → w.done ≡ true
-but_first w v ws h = h.0
 
 done_are_but : (ws : List Word) → AreDone ws → AreDoneBut ws
 done_are_but [] h = tt
@@ -316,16 +312,7 @@ module _ (vars : ℕ) (C : List (List LitOf)) (a : Answer) where
     idle_line [] i = refl
     idle_line (w ∷ ws) (inl e) = rw (eq-eqb (slice_index w.text 0) 99 e) refl
     idle_line (w ∷ ws) (inr (e, n)) =
-        ap (λ x. visible_says vars true false broken going more (slice_index x 0) w ws) e ∙ alone_one w 115 _ e ∙ unknown ws n
-      where
-        unknown : (us : List Word) → texts us ≢ codes "UNKNOWN" ∷ [] → status_says true more us ≡ more
-        unknown [] n = refl
-        unknown (u ∷ []) n =
-            elim (cases_Bool (is_unknown (u ∷ []))) [
-              | inl k ↦ absurd (n (ap (λ z. z ∷ []) ((bytes_eq-Decides u.text (codes "UNKNOWN")).0 k)))
-              | inr k ↦ rw k refl
-            ]
-        unknown (u ∷ r ∷ us) n = refl
+        ap (λ x. visible_says vars true false broken going more (slice_index x 0) w ws) e ∙ alone_one w 115 _ e ∙ status_idle IsUnknown more ws n
 
     remark_line : (amid : Bool) (ws : List Word) → IsRemark (texts ws) → line_says vars true amid broken going more ws ≡ cond amid going more
     remark_line amid [] i = refl

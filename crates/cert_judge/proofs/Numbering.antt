@@ -1,5 +1,5 @@
 -- The numbers of kinds of faults.
-use Rattle.std.proofs.Common.{◌≡◌, ◌≢◌, ℕ, false, eqb, None, Some, refl, sym, arith}
+use Rattle.std.proofs.Common.{◌≡◌, ◌≢◌, ℕ, false, eqb, None, refl, sym, arith}
 use Rattle.std.proofs.lemmas.Bool.Decides.{nat_tests}
 use Rattle.cert_judge.specs.Numbers.{kind_of, number_of}
 use Rattle.cert_judge.specs.declared.stream.CertKind.{CertKind}
@@ -28,20 +28,3 @@ unlike m n other = grind (arith, nat_tests, other)
 pub none_numbered : (n : ℕ) → n ≢ 41 → n ≢ 42 → n ≢ 43 → n ≢ 44 → n ≢ 45 → n ≢ 46 → n ≢ 47 → n ≢ 48 → n ≢ 49 → n ≢ 58 → n ≢ 59 → n ≢ 60 → n ≢ 61 → n ≢ 62 → kind_of n ≡ None
 none_numbered n a b c d e f g h i j k l o p =
     rw (unlike 41 n a, unlike 42 n b, unlike 43 n c, unlike 44 n d, unlike 45 n e, unlike 46 n f, unlike 47 n g, unlike 48 n h, unlike 49 n i, unlike 58 n j, unlike 59 n k, unlike 60 n l, unlike 61 n o, unlike 62 n p) refl
-
--- a kind is the one with its number
-pub kind_numbered : (kind : CertKind) → kind_of (number_of kind) ≡ Some kind
-kind_numbered BadLine = refl
-kind_numbered BadLiteral = refl
-kind_numbered LineTooLong = refl
-kind_numbered NotRup = refl
-kind_numbered NotSatisfying = refl
-kind_numbered NotPlaying = refl
-kind_numbered TooLong = refl
-kind_numbered EarlyEnd = refl
-kind_numbered BadWitness = refl
-kind_numbered BadId = refl
-kind_numbered BadHint = refl
-kind_numbered NotHinted = refl
-kind_numbered BadPart = refl
-kind_numbered NotInvariant = refl

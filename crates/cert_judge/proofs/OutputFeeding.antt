@@ -56,9 +56,6 @@ gave_nothing j = record {
   wanting = λ w. w;
 }
 
-pub goes_nothing : {S : Type 0} (x : OutputOf S) → Goes x [] x
-goes_nothing x = record { gave = gave_nothing x.judge; spot = refl; values = refl }
-
 -- one piece and then another
 gave_append : {S : Type 0} (j k l : JudgeOf S) (a b : List ℕ) → Gave j a k → Gave k b l → Gave j (a ++ b) l
 gave_append {S} j k l a b g h = record {
@@ -104,6 +101,3 @@ module _ {S : Type 0} (x y z : OutputOf S) (piece : List ℕ) (i : ℕ) (g : Goe
 
   pub goes_next : i < length piece → Goes y (get_or piece i 0 ∷ []) z → Goes x (take (i + 1) piece) z
   goes_next l h = subst (λ t. Goes x t z) (take_next piece i l) (goes_append x y z (take i piece) (get_or piece i 0 ∷ []) g h)
-
-pub goes_all : {S : Type 0} (x y : OutputOf S) (piece : List ℕ) (i : ℕ) → Goes x (take i piece) y → length piece ≤ i → Goes x piece y
-goes_all x y piece i g l = subst (λ t. Goes x t y) (take_whole piece i l) g

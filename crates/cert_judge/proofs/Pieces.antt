@@ -301,19 +301,3 @@ module _ {S : Type 0} (most : ℕ) (l : Lines S) (wanting : Bool) (e : lines_out
   pub ends_piece : (k : Lines S) (o : Outcome) → TakesEnd l k → lines_outcome k ≡ Some o → IsOver (judge k most wanting) bytes o
   ends_piece k o (i, t, q) r =
       subst (λ (z : Lines S). IsOver (judge z most wanting) bytes o) (sym q) (over i t o (ap lines_outcome (sym q) ∙ r))
-
--- a call keeps the formula, the kind and the number of bytes
-pub same_piece : {S : Type 0} (most room : ℕ) (l k : Lines S) (piece : List ℕ) (total : ℕ) (wanting : Bool) → TakesPiece total room l piece k → IsSameJudge (judge l most wanting) (judge k most wanting)
-same_piece most room l k piece total wanting (inl (f, t)) = record { formula = t.0.formula; kind = t.0.kind; most = refl }
-same_piece most room l k piece total wanting (inr (i, f, t, q)) = record {
-  formula = ap lines_formula q ∙ lines_or_formula i _ ∙ t.0.formula;
-  kind = ap lines_kind q ∙ lines_or_kind i _ ∙ t.0.kind;
-  most = refl;
-}
-
-pub same_end : {S : Type 0} (most : ℕ) (l k : Lines S) (wanting : Bool) → TakesEnd l k → IsSameJudge (judge l most wanting) (judge k most wanting)
-same_end most l k wanting (i, t, q) = record {
-  formula = ap lines_formula q ∙ lines_or_formula i _ ∙ t.0.formula;
-  kind = ap lines_kind q ∙ lines_or_kind i _ ∙ t.0.kind;
-  most = refl;
-}

@@ -29,7 +29,7 @@ use Rattle.cert_judge.specs.Certificate.{CertificateOf, LineOf}
 use Rattle.cert_judge.specs.Drup as drup
 use Rattle.cert_judge.specs.Fate.{Fate}
 use Rattle.cert_judge.specs.Leading.{Heard, AwaitsMore, Leads, drup_ending, lrat_ending}
-use Rattle.cert_judge.specs.Lines.{AreValuesTold, Took, TookEnd}
+use Rattle.cert_judge.specs.Lines.{AreValuesTold, Takes, Took, TookEnd}
 use Rattle.cert_judge.specs.Lrat as lrat
 use Rattle.cert_judge.specs.Outcomes.{fate_told}
 use Rattle.cert_judge.specs.ProofFile as proof_file
@@ -70,16 +70,20 @@ module _ {W S C : Type 0} (p : Parsing W S) (m : Meaning S C) (start : ℕ → W
         (subst (λ (f : FormulaOf). AreValuesTold f (named_from unnamed (m.lits (so_far c.formula (bytes ++ piece)))) d.bits d.outcome) g.leads.formula
         (values_told m p (start c.formula.vars) w c bytes h more d g.leads (named_from unnamed (m.lits (so_far c.formula (bytes ++ piece)))) (ap (λ (z : List S). named_from unnamed (m.lits z)) (sym whole))))
 
-    pub took_comes : come d.formula false (bytes ++ piece) (fate_told d.outcome)
+    took_comes : come d.formula false (bytes ++ piece) (fate_told d.outcome)
     took_comes = subst (λ (f : FormulaOf). come f false (bytes ++ piece) (fate_told d.outcome)) (sym g.leads.formula) comes_here
 
-    pub took_values : AreValuesTold d.formula (named d.formula.vars false (bytes ++ piece)) d.bits d.outcome
+    took_values : AreValuesTold d.formula (named d.formula.vars false (bytes ++ piece)) d.bits d.outcome
     took_values = subst (λ (f : FormulaOf). AreValuesTold f (named f.vars false (bytes ++ piece)) d.bits d.outcome) (sym g.leads.formula) values_here
 
-    pub took_at : d.outcome ≡ None → AwaitsMore p m (start d.formula.vars) v d (bytes ++ piece)
+    took_at : d.outcome ≡ None → AwaitsMore p m (start d.formula.vars) v d (bytes ++ piece)
     took_at n =
         subst (λ (f : FormulaOf). AwaitsMore p m (start f.vars) v d (bytes ++ piece)) (sym g.leads.formula)
         (at_next m p said_append after_append none_said (start c.formula.vars) w v c d bytes piece h g n)
+
+    pub took : come d.formula false (bytes ++ piece) (fate_told d.outcome) × AreValuesTold d.formula (named d.formula.vars false (bytes ++ piece)) d.bits d.outcome
+        × (d.outcome ≡ None → AwaitsMore p m (start d.formula.vars) v d (bytes ++ piece))
+    took = (took_comes, took_values, took_at)
 
   -- and at the end
   module _ (ending : W → List S) (come_at_end : (f : FormulaOf) (bytes : List ℕ) (x : Option Fate) → m.begins f (p.said (start f.vars) bytes ++ ending (p.after (start f.vars) bytes)) x → come f true bytes x)
@@ -88,101 +92,70 @@ module _ {W S C : Type 0} (p : Parsing W S) (m : Meaning S C) (start : ℕ → W
     all : p.said (start c.formula.vars) bytes ++ ending w ≡ p.said (start c.formula.vars) bytes ++ ending (p.after (start c.formula.vars) bytes)
     all = ap (λ (u : W). p.said (start c.formula.vars) bytes ++ ending u) h.parser
 
-    pub end_comes : come d.formula true bytes (fate_told d.outcome)
+    end_comes : come d.formula true bytes (fate_told d.outcome)
     end_comes =
         subst (λ (f : FormulaOf). come f true bytes (fate_told d.outcome)) (sym l.formula)
         (come_at_end c.formula bytes (fate_told d.outcome) (subst (λ (z : List S). m.begins c.formula z (fate_told d.outcome)) all (comes_told m p (start c.formula.vars) w c bytes h (ending w) d l nothing)))
 
-    pub end_values : AreValuesTold d.formula (named d.formula.vars true bytes) d.bits d.outcome
+    end_values : AreValuesTold d.formula (named d.formula.vars true bytes) d.bits d.outcome
     end_values =
         values_told m p (start c.formula.vars) w c bytes h (ending w) d l (named d.formula.vars true bytes)
         (ap (λ (z : List S). named_from unnamed (m.lits z)) all ∙ named_at_end c.formula bytes ∙ ap (λ (f : FormulaOf). named f.vars true bytes) (sym l.formula))
+
+    pub took_end : come d.formula true bytes (fate_told d.outcome) × AreValuesTold d.formula (named d.formula.vars true bytes) d.bits d.outcome
+    took_end = (end_comes, end_values)
 
 -- where bytes were counted, and more are
 counted : (taken : ℕ) (n : ℕ) (bytes piece : List ℕ) → n ≡ length bytes → taken ≡ n + length piece → taken ≡ length (bytes ++ piece)
 counted taken n bytes piece e k = let q = length-append bytes piece in omega (arith, e, k, q)
 
 -- DRUP text
+drup_come : (ended : Bool) (f : FormulaOf) (bytes : List ℕ) (x : Option Fate) → drup.StreamFate f (drup_telling.spoken ended (drup_telling.fresh f.vars) bytes) x → drup.BytesFate f ended bytes x
+drup_come ended f bytes x h = subst (λ (z : List Saying). drup.StreamFate f z x) (drup_streams.stream_spoken f.vars ended bytes) h
+
 pub drup_took : (S : Type 0) (l k : LineOf DrupOf CheckerOf) (piece : List ℕ) → Heard drup_parsing drup_meaning l.parser l.certificate piece k.parser k.certificate → Took {S = S} (Drup l) piece (Drup k)
-drup_took S l k piece g = (
-  record { formula = g.leads.formula; kind = refl },
-  λ bytes (h, n). record {
-    tells = record {
-      comes = took_comes drup_parsing drup_meaning drup_telling.fresh drup.BytesFate drup.values_named nothing drup_cutting.said_append drup_cutting.after_append refl come values l.parser k.parser l.certificate k.certificate bytes piece h g;
-      values = took_values drup_parsing drup_meaning drup_telling.fresh drup.BytesFate drup.values_named nothing drup_cutting.said_append drup_cutting.after_append refl come values l.parser k.parser l.certificate k.certificate bytes piece h g;
-    };
-    at = λ e. (
-      took_at drup_parsing drup_meaning drup_telling.fresh drup.BytesFate drup.values_named nothing drup_cutting.said_append drup_cutting.after_append refl come values l.parser k.parser l.certificate k.certificate bytes piece h g e,
-      counted k.parser.taken l.parser.taken bytes piece n (ap (λ (w : DrupOf). w.taken) (g.kept e) ∙ drup_cutting.after_taken l.parser piece),
-    );
-  },
-)
+drup_took S l k piece g = (record { formula = g.leads.formula; kind = refl }, λ bytes (h, n). takes bytes h n)
   where
-    nothing : (f : FormulaOf) (e : CheckerOf) (x : Assignment) → drup.SayingsFate f.clauses e.clauses x [] None
-    nothing f e x = refl
-
-    come : (f : FormulaOf) (bytes : List ℕ) (x : Option Fate) → drup.StreamFate f (drup_telling.spoken false (drup_telling.fresh f.vars) bytes) x → drup.BytesFate f false bytes x
-    come f bytes x h = subst (λ (z : List Saying). drup.StreamFate f z x) (drup_streams.stream_spoken f.vars false bytes) h
-
     values : (f : FormulaOf) (bytes : List ℕ) (bits : List Bool) (o : Option Outcome) → drup.BytesFate f false bytes (fate_told o)
         → AreValuesTold f (drup.values_said (drup_telling.spoken false (drup_telling.fresh f.vars) bytes)) bits o → AreValuesTold f (drup.values_named f.vars false bytes) bits o
     values f bytes bits o k v = subst (λ (z : List Saying). AreValuesTold f (drup.values_said z) bits o) (drup_streams.stream_spoken f.vars false bytes) v
 
+    takes : (bytes : List ℕ) → AwaitsMore drup_parsing drup_meaning (drup_telling.fresh l.certificate.formula.vars) l.parser l.certificate bytes → l.parser.taken ≡ length bytes → Takes {S = S} (Drup k) (bytes ++ piece)
+    takes bytes h n =
+        let t = took drup_parsing drup_meaning drup_telling.fresh drup.BytesFate drup.values_named (λ f e x. refl) drup_cutting.said_append drup_cutting.after_append refl (drup_come false) values l.parser k.parser l.certificate k.certificate bytes piece h g in
+        record { tells = record { comes = t.0; values = t.1 }; at = λ e. (t.2 e, counted k.parser.taken l.parser.taken bytes piece n (ap (λ (w : DrupOf). w.taken) (g.kept e) ∙ drup_cutting.after_taken l.parser piece)) }
+
 pub drup_took_end : (S : Type 0) (l k : LineOf DrupOf CheckerOf) → Leads drup_meaning l.certificate (drup_ending l.parser) k.certificate → TookEnd {S = S} (Drup l) (Drup k)
 drup_took_end S l k g = (
   record { formula = g.formula; kind = refl },
-  λ bytes (h, n). record {
-    comes = end_comes drup_parsing drup_meaning drup_telling.fresh drup.BytesFate drup.values_named (λ f e x. refl) drup_ending come values l.parser l.certificate k.certificate bytes h g;
-    values = end_values drup_parsing drup_meaning drup_telling.fresh drup.BytesFate drup.values_named (λ f e x. refl) drup_ending come values l.parser l.certificate k.certificate bytes h g;
-  },
+  λ bytes (h, n).
+      let t = took_end drup_parsing drup_meaning drup_telling.fresh drup.BytesFate drup.values_named (λ f e x. refl) drup_ending (drup_come true) (λ f bytes. ap drup.values_said (drup_streams.stream_spoken f.vars true bytes)) l.parser l.certificate k.certificate bytes h g in
+      record { comes = t.0; values = t.1 },
 )
-  where
-    come : (f : FormulaOf) (bytes : List ℕ) (x : Option Fate) → drup.StreamFate f (drup_telling.spoken true (drup_telling.fresh f.vars) bytes) x → drup.BytesFate f true bytes x
-    come f bytes x h = subst (λ (z : List Saying). drup.StreamFate f z x) (drup_streams.stream_spoken f.vars true bytes) h
-
-    values : (f : FormulaOf) (bytes : List ℕ) → drup.values_said (drup_telling.spoken true (drup_telling.fresh f.vars) bytes) ≡ drup.values_named f.vars true bytes
-    values f bytes = ap drup.values_said (drup_streams.stream_spoken f.vars true bytes)
 
 -- hinted text
+lrat_come : (ended : Bool) (f : FormulaOf) (bytes : List ℕ) (x : Option Fate) → lrat.StreamFate f (lrat_telling.spoken ended (lrat_telling.fresh f.vars) bytes) x → lrat.BytesFate f ended bytes x
+lrat_come ended f bytes x h = subst (λ (z : List LratSaying). lrat.StreamFate f z x) (lrat_streams.stream_spoken f.vars ended bytes) h
+
 pub lrat_took : (S : Type 0) (l k : LineOf LratOf HintedOf) (piece : List ℕ) → Heard lrat_parsing lrat_meaning l.parser l.certificate piece k.parser k.certificate → Took {S = S} (Lrat l) piece (Lrat k)
-lrat_took S l k piece g = (
-  record { formula = g.leads.formula; kind = refl },
-  λ bytes (h, n). record {
-    tells = record {
-      comes = took_comes lrat_parsing lrat_meaning lrat_telling.fresh lrat.BytesFate lrat.values_named nothing lrat_cutting.said_append lrat_cutting.after_append refl come values l.parser k.parser l.certificate k.certificate bytes piece h g;
-      values = took_values lrat_parsing lrat_meaning lrat_telling.fresh lrat.BytesFate lrat.values_named nothing lrat_cutting.said_append lrat_cutting.after_append refl come values l.parser k.parser l.certificate k.certificate bytes piece h g;
-    };
-    at = λ e. (
-      took_at lrat_parsing lrat_meaning lrat_telling.fresh lrat.BytesFate lrat.values_named nothing lrat_cutting.said_append lrat_cutting.after_append refl come values l.parser k.parser l.certificate k.certificate bytes piece h g e,
-      counted k.parser.taken l.parser.taken bytes piece n (ap (λ (w : LratOf). w.taken) (g.kept e) ∙ lrat_cutting.after_taken l.parser piece),
-    );
-  },
-)
+lrat_took S l k piece g = (record { formula = g.leads.formula; kind = refl }, λ bytes (h, n). takes bytes h n)
   where
-    nothing : (f : FormulaOf) (e : HintedOf) (x : Assignment) → lrat.SayingsFate f.clauses (lrat.held e) x [] None
-    nothing f e x = refl
-
-    come : (f : FormulaOf) (bytes : List ℕ) (x : Option Fate) → lrat.StreamFate f (lrat_telling.spoken false (lrat_telling.fresh f.vars) bytes) x → lrat.BytesFate f false bytes x
-    come f bytes x h = subst (λ (z : List LratSaying). lrat.StreamFate f z x) (lrat_streams.stream_spoken f.vars false bytes) h
-
     values : (f : FormulaOf) (bytes : List ℕ) (bits : List Bool) (o : Option Outcome) → lrat.BytesFate f false bytes (fate_told o)
         → AreValuesTold f (lrat.values_said (lrat_telling.spoken false (lrat_telling.fresh f.vars) bytes)) bits o → AreValuesTold f (lrat.values_named f.vars false bytes) bits o
     values f bytes bits o k v = subst (λ (z : List LratSaying). AreValuesTold f (lrat.values_said z) bits o) (lrat_streams.stream_spoken f.vars false bytes) v
 
+    takes : (bytes : List ℕ) → AwaitsMore lrat_parsing lrat_meaning (lrat_telling.fresh l.certificate.formula.vars) l.parser l.certificate bytes → l.parser.taken ≡ length bytes → Takes {S = S} (Lrat k) (bytes ++ piece)
+    takes bytes h n =
+        let t = took lrat_parsing lrat_meaning lrat_telling.fresh lrat.BytesFate lrat.values_named (λ f e x. refl) lrat_cutting.said_append lrat_cutting.after_append refl (lrat_come false) values l.parser k.parser l.certificate k.certificate bytes piece h g in
+        record { tells = record { comes = t.0; values = t.1 }; at = λ e. (t.2 e, counted k.parser.taken l.parser.taken bytes piece n (ap (λ (w : LratOf). w.taken) (g.kept e) ∙ lrat_cutting.after_taken l.parser piece)) }
+
 pub lrat_took_end : (S : Type 0) (l k : LineOf LratOf HintedOf) → Leads lrat_meaning l.certificate (lrat_ending l.parser) k.certificate → TookEnd {S = S} (Lrat l) (Lrat k)
 lrat_took_end S l k g = (
   record { formula = g.formula; kind = refl },
-  λ bytes (h, n). record {
-    comes = end_comes lrat_parsing lrat_meaning lrat_telling.fresh lrat.BytesFate lrat.values_named (λ f e x. refl) lrat_ending come values l.parser l.certificate k.certificate bytes h g;
-    values = end_values lrat_parsing lrat_meaning lrat_telling.fresh lrat.BytesFate lrat.values_named (λ f e x. refl) lrat_ending come values l.parser l.certificate k.certificate bytes h g;
-  },
+  λ bytes (h, n).
+      let t = took_end lrat_parsing lrat_meaning lrat_telling.fresh lrat.BytesFate lrat.values_named (λ f e x. refl) lrat_ending (lrat_come true) (λ f bytes. ap lrat.values_said (lrat_streams.stream_spoken f.vars true bytes)) l.parser l.certificate k.certificate bytes h g in
+      record { comes = t.0; values = t.1 },
 )
-  where
-    come : (f : FormulaOf) (bytes : List ℕ) (x : Option Fate) → lrat.StreamFate f (lrat_telling.spoken true (lrat_telling.fresh f.vars) bytes) x → lrat.BytesFate f true bytes x
-    come f bytes x h = subst (λ (z : List LratSaying). lrat.StreamFate f z x) (lrat_streams.stream_spoken f.vars true bytes) h
-
-    values : (f : FormulaOf) (bytes : List ℕ) → lrat.values_said (lrat_telling.spoken true (lrat_telling.fresh f.vars) bytes) ≡ lrat.values_named f.vars true bytes
-    values f bytes = ap lrat.values_said (lrat_streams.stream_spoken f.vars true bytes)
 
 -- a proof file
 or_some : (o : Option ParseFault) (f : ParseFault) → fault_or o (Some f) ≡ None → ⊥
@@ -231,17 +204,10 @@ module _ (form : Form) where
   values f bytes bits (Some (Bad b)) k v = tt
 
   module _ (l k : LineOf FileOf CheckerOf) (piece bytes : List ℕ) (g : Heard file_parsing drup_meaning l.parser l.certificate piece k.parser k.certificate) (h : AwaitsMore file_parsing drup_meaning (file.fresh form l.certificate.formula.vars) l.parser l.certificate bytes) where
-    pub file_took_comes : proof_file.BytesFate form k.certificate.formula false (bytes ++ piece) (fate_told k.certificate.outcome)
-    file_took_comes =
-        took_comes file_parsing drup_meaning (file.fresh form) (proof_file.BytesFate form) (λ vars ended bytes. unnamed) nothing file_cutting.said_append file_cutting.after_append refl come values l.parser k.parser l.certificate k.certificate bytes piece h g
-
-    pub file_took_values : AreValuesTold k.certificate.formula unnamed k.certificate.bits k.certificate.outcome
-    file_took_values =
-        took_values file_parsing drup_meaning (file.fresh form) (proof_file.BytesFate form) (λ vars ended bytes. unnamed) nothing file_cutting.said_append file_cutting.after_append refl come values l.parser k.parser l.certificate k.certificate bytes piece h g
-
-    pub file_took_at : k.certificate.outcome ≡ None → AwaitsMore file_parsing drup_meaning (file.fresh form k.certificate.formula.vars) k.parser k.certificate (bytes ++ piece)
-    file_took_at e =
-        took_at file_parsing drup_meaning (file.fresh form) (proof_file.BytesFate form) (λ vars ended bytes. unnamed) nothing file_cutting.said_append file_cutting.after_append refl come values l.parser k.parser l.certificate k.certificate bytes piece h g e
+    pub file_took : proof_file.BytesFate form k.certificate.formula false (bytes ++ piece) (fate_told k.certificate.outcome) × AreValuesTold k.certificate.formula unnamed k.certificate.bits k.certificate.outcome
+        × (k.certificate.outcome ≡ None → AwaitsMore file_parsing drup_meaning (file.fresh form k.certificate.formula.vars) k.parser k.certificate (bytes ++ piece))
+    file_took =
+        took file_parsing drup_meaning (file.fresh form) (proof_file.BytesFate form) (λ vars ended bytes. unnamed) nothing file_cutting.said_append file_cutting.after_append refl come values l.parser k.parser l.certificate k.certificate bytes piece h g
 
     pub file_took_count : k.certificate.outcome ≡ None → file.taken_of l.parser ≡ length bytes → file.taken_of k.parser ≡ length (bytes ++ piece)
     file_took_count e n = counted (file.taken_of k.parser) (file.taken_of l.parser) bytes piece n (ap file.taken_of (g.kept e) ∙ after_taken l.parser piece (g.whole e))
@@ -249,17 +215,15 @@ module _ (form : Form) where
 pub proof_took : (S : Type 0) (l k : LineOf FileOf CheckerOf) (piece : List ℕ) → Heard file_parsing drup_meaning l.parser l.certificate piece k.parser k.certificate → Took {S = S} (Proof l) piece (Proof k)
 proof_took S l k piece g = (
   record { formula = g.leads.formula; kind = refl },
-  λ bytes (h, n). record {
-    tells = record { comes = file_took_comes Text l k piece bytes g h; values = file_took_values Text l k piece bytes g h };
-    at = λ e. (file_took_at Text l k piece bytes g h e, file_took_count Text l k piece bytes g h e n);
-  },
+  λ bytes (h, n).
+      let t = file_took Text l k piece bytes g h in
+      record { tells = record { comes = t.0; values = t.1 }; at = λ e. (t.2 e, file_took_count Text l k piece bytes g h e n) },
 )
 
 pub binary_took : (S : Type 0) (l k : LineOf FileOf CheckerOf) (piece : List ℕ) → Heard file_parsing drup_meaning l.parser l.certificate piece k.parser k.certificate → Took {S = S} (ProofBinary l) piece (ProofBinary k)
 binary_took S l k piece g = (
   record { formula = g.leads.formula; kind = refl },
-  λ bytes (h, n). record {
-    tells = record { comes = file_took_comes Binary l k piece bytes g h; values = file_took_values Binary l k piece bytes g h };
-    at = λ e. (file_took_at Binary l k piece bytes g h e, file_took_count Binary l k piece bytes g h e n);
-  },
+  λ bytes (h, n).
+      let t = file_took Binary l k piece bytes g h in
+      record { tells = record { comes = t.0; values = t.1 }; at = λ e. (t.2 e, file_took_count Binary l k piece bytes g h e n) },
 )

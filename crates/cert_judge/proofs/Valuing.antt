@@ -1,13 +1,11 @@
 -- Values in a table, and the first clause that they don't satisfy.
-use Rattle.std.proofs.Common.{◌≡◌, ℕ, zero, suc, ◌+◌, ◌<◌, ◌≤◌, Bool, false, cond, eqb, leb, List, [], ◌∷◌, ◌++◌, length, get_or, set, Some, refl, sym, ap, ◌∙◌, subst, inl, inr, arith, ◌⊎◌}
-use Rattle.std.specs.Prelude.{All, Contains, Option, slice_get}
+use Rattle.std.proofs.Common.{◌≡◌, ℕ, zero, suc, ◌+◌, ◌<◌, eqb, leb, List, [], ◌∷◌, ◌++◌, get_or, Some, refl, sym, ap, ◌∙◌, subst, inl, inr, arith, ◌⊎◌}
+use Rattle.std.specs.Prelude.{Contains, Option, slice_get}
 use Rattle.std.proofs.lemmas.Bool.{cases_Bool, eqb-true, eqb-false, leb-true, leb-false}
-use Rattle.std.proofs.lemmas.List.{get_or-set_same, get_or-set_other}
-use Rattle.std.proofs.lemmas.Option.{slice_get_read, slice_get_within, slice_get-get_or}
-use Rattle.cnf_form.specs.Cnf.{LitOf, Assignment, SatisfiesClause, Satisfies, ClauseWithin, Within}
+use Rattle.std.proofs.lemmas.Option.{slice_get_within, slice_get-get_or}
+use Rattle.cnf_form.specs.Cnf.{LitOf, Assignment, SatisfiesClause, Satisfies}
 use Rattle.cnf_form.proofs.Members.{Contains-cases, Contains-empty}
 use Rattle.cnf_form.proofs.Rup.{clause_cases, lit_in-negate}
-use Rattle.cert_judge.specs.Values.{values_of}
 use Rattle.cert_judge.specs.Values.{IsFirstUnsatisfied, named, named_from}
 use Rattle.cert_judge.specs.Fate.{Fate, Bad, ValuesFate}
 use Rattle.cert_judge.specs.declared.stream.CertKind.TheVariants.{NotSatisfying}
@@ -17,24 +15,7 @@ pub named_append : (x : Assignment) (a b : List LitOf) → named_from x (a ++ b)
 named_append x [] b = refl
 named_append x (l ∷ a) b = named_append (named x l) a b
 
-pub bit_set : (bits : List Bool) (k : ℕ) (b : Bool) (v : ℕ) → k < length bits → values_of (set bits k b) v ≡ cond (eqb v k) b (values_of bits v)
-bit_set bits k b v h =
-    elim (cases_Bool (eqb v k)) [
-      | inl t ↦ rw (t, eqb-true v k t) (get_or-set_same bits k b false h)
-      | inr f ↦ rw f (get_or-set_other bits k v b false (eqb-false v k f))
-    ]
-
--- the clauses' literals have their places
-pub places_within : (vars n : ℕ) (F : List (List LitOf)) (c : List LitOf) → Within vars F → Contains F c → n ≡ vars + 1 → All (λ l. l.var < n) c
-places_within vars n F c w h e k d l = let p = (subst (ClauseWithin vars) h.2 (w h.0 c h.1)) k d l in omega (arith, p.1, e)
-
-pub line_places : (vars n : ℕ) (c : List LitOf) → ClauseWithin vars c → n ≡ vars + 1 → All (λ l. l.var < n) c
-line_places vars n c w e k d l = let p = w k d l in omega (arith, p.1, e)
-
 -- all clauses, one by one
-pub all_satisfied : (x : Assignment) (F : List (List LitOf)) (n : ℕ) → length F ≤ n → ((j : ℕ) (d : List LitOf) → j < n → slice_get F j ≡ Some d → SatisfiesClause x d) → Satisfies x F
-all_satisfied x F n l h c (i, k, e) = h i c (omega arith) (slice_get_read F (length F) i c refl k (sym e))
-
 contained : (F : List (List LitOf)) (i : ℕ) (c : List LitOf) → slice_get F i ≡ Some c → Contains F c
 contained F i c e =
     let l = slice_get_within F i c e in

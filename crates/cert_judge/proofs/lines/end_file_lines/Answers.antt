@@ -1,14 +1,14 @@
-use Rattle.std.proofs.Common.{ap, subst, ◌∙◌}
+use Rattle.std.proofs.Common.{ap, refl, subst, ◌∙◌}
 use Rattle.proof_stream.specs.File.{FileOf}
 use Rattle.drup_check.specs.Checking.{CheckerOf}
 use Rattle.cert_judge.specs.Certificate.{LineOf}
 use Rattle.cert_judge.specs.Leading.{Leads, file_ending}
 use Rattle.cert_judge.specs.Reading.{drup_meaning}
-use Rattle.cert_judge.proofs.LineCalls.{file_end}
+use Rattle.cert_judge.proofs.Leading.{heard_end}
 use Rattle.cert_judge.proofs.lines.end_file_lines.Goals as goal
 
 pub returns-clause-leads : goal.returns-clause-leads
 returns-clause-leads g c =
     subst (λ (l : LineOf FileOf CheckerOf). Leads drup_meaning l.certificate (file_ending l.parser) c.conclude.new.self) c.line.view_is
-    (file_end c.line.inside.parser c.line.inside.parser c.line.inside.certificate c.end.new.receiver c.conclude.new.self c.in_ok-fed.fed
-    (ap (λ (l : LineOf FileOf CheckerOf). l.certificate.outcome) c.line.view_is ∙ c.requires.open) c.conclude.ensures c.in_ok-fed.ensures.told c.in_ok-fed.ensures.answer)
+    (heard_end drup_meaning refl (λ f c x w rest fate h. h) c.line.inside.certificate c.end.new.receiver c.conclude.new.self _ _ c.in_ok-fed.fed
+    (ap (λ (l : LineOf FileOf CheckerOf). l.certificate.outcome) c.line.view_is ∙ c.requires.open) c.in_ok-fed.ensures.told c.in_ok-fed.ensures.answer c.conclude.ensures)

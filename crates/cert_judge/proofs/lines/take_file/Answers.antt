@@ -1,14 +1,14 @@
-use Rattle.std.proofs.Common.{ap, subst, ◌∙◌}
+use Rattle.std.proofs.Common.{ap, refl, subst, ◌∙◌}
 use Rattle.proof_stream.specs.File.{FileOf}
 use Rattle.drup_check.specs.Checking.{CheckerOf}
 use Rattle.cert_judge.specs.Certificate.{LineOf}
 use Rattle.cert_judge.specs.Leading.{Heard}
 use Rattle.cert_judge.specs.Reading.{drup_meaning, file_parsing}
-use Rattle.cert_judge.proofs.LineCalls.{file_piece}
+use Rattle.cert_judge.proofs.Leading.{heard_piece}
 use Rattle.cert_judge.proofs.lines.take_file.Goals as goal
 
 pub returns-clause-heard : goal.returns-clause-heard
 returns-clause-heard g c =
     subst (λ (l : LineOf FileOf CheckerOf). Heard file_parsing drup_meaning l.parser l.certificate c.args.piece.now c.feed.new.self c.conclude.new.self) c.line.view_is
-    (file_piece c.line.inside.parser c.feed.new.self c.line.inside.certificate c.feed.new.receiver c.conclude.new.self c.in_ok-fed.fed
-    (ap (λ (l : LineOf FileOf CheckerOf). l.certificate.outcome) c.line.view_is ∙ c.requires.open) c.conclude.ensures c.args.piece.now c.in_ok-fed.ensures.told c.in_ok-fed.ensures.kept c.in_ok-fed.ensures.answer)
+    (heard_piece drup_meaning refl (λ f c x w rest fate h. h) file_parsing c.line.inside.parser c.feed.new.self c.line.inside.certificate c.feed.new.receiver c.conclude.new.self c.args.piece.now c.in_ok-fed.fed
+    (ap (λ (l : LineOf FileOf CheckerOf). l.certificate.outcome) c.line.view_is ∙ c.requires.open) c.in_ok-fed.ensures.told c.in_ok-fed.ensures.kept c.in_ok-fed.ensures.answer c.conclude.ensures)
