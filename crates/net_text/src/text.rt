@@ -40,8 +40,8 @@ impl<'a> Text<'a> {
         }
     }
 
-    // Fills the front of the buffer from one piece.
-    fn give(&mut self, buffer: &mut [u8]) -> usize
+    /// Fills the front of the buffer, and answers how many bytes it did: 0 only where none is left, or for an empty buffer.
+    pub fn next(&mut self, buffer: &mut [u8]) -> usize
         ensures fits { result ≤ length buffer.new }
         ensures piece { self.old ≡ take result buffer.new ++ self.new }
         ensures ends { result ≡ 0 → 0 < length buffer.new → self.old ≡ [] }
@@ -52,22 +52,5 @@ impl<'a> Text<'a> {
         buffer[..count].copy_from_slice(&left[..count]);
         self.front.given += count;
         count
-    }
-
-    /// Fills the front of the buffer, and answers how many bytes it did: 0 only where none is left, or for an empty buffer.
-    pub fn next(&mut self, buffer: &mut [u8]) -> usize
-        ensures fits { result ≤ length buffer.new }
-        ensures piece { self.old ≡ take result buffer.new ++ self.new }
-        ensures ends { result ≡ 0 → 0 < length buffer.new → self.old ≡ [] }
-    {
-        let mut filled = 0;
-        while filled < buffer.len() {
-            let count = self.give(&mut buffer[filled..]);
-            if count == 0 {
-                break;
-            }
-            filled += count;
-        }
-        filled
     }
 }

@@ -1,25 +1,21 @@
-use Rattle.std.proofs.Common.{◌≡◌, ◌+◌, ◌-◌, ◌≤◌, ◌++◌, ◌∙◌, ap, sym, arith, take, drop, length, append_assoc}
-use Rattle.std.proofs.lemmas.List.{length-drop, length-take-le, take-append-le}
-use Rattle.std.proofs.Math.Seq.{take-append-add}
-use borrow.Rule.Slice.PartMut.{put_mid, post_of, same_len_mid}
+use Rattle.std.proofs.Common.{◌≡◌, ◌+◌, ◌++◌, ◌∙◌, ℕ, List, ap, sym, arith, length, take, drop}
+use Rattle.std.proofs.lemmas.List.{length-drop}
+use Rattle.net_text.specs.Text.{text_from}
+use Rattle.net_text.proofs.Writing.{given_text, slice_left}
 use Rattle.net_text.proofs.text.Text.next.Goals as goal
 
-pub loop-filled-preserved : goal.loop-filled-preserved
-loop-filled-preserved c =
-    let at = c.loop-filled.filled in
-    let count = c.give-count.result in
-    let before = c.loop-filled.buffer in
-    let part = c.give-count.new.buffer in
-    let room = length before - at in
-    let front : take (at + count) (put_mid at room before part) ≡ take at before ++ take count part =
-    ap (λ n. take (n + count) (put_mid at room before part)) (sym (length-take-le at before c.loop-filled.invariant.within))
-    ∙ take-append-add (take at before) (part ++ post_of at room before) count
-    ∙ ap (λ xs. take at before ++ xs) (take-append-le count part (post_of at room before) c.give-count.ensures.fits) in
-    let same : length (put_mid at room before part) ≡ length before = same_len_mid at room before part c.give-count.auto.buffer in
-    let fits : count ≤ length part = c.give-count.ensures.fits in
-    let put : length part ≡ room = c.give-count.auto.buffer ∙ length-take-le room (drop at before) (omega (arith, length-drop at before)) in
-    record {
-      told = c.loop-filled.invariant.told ∙ ap (λ xs. take at before ++ xs) c.give-count.ensures.piece
-          ∙ sym (append_assoc (take at before) (take count part) c.give-count.new.self) ∙ ap (λ xs. xs ++ c.give-count.new.self) (sym front);
-      within = omega arith;
-    }
+pub returns-clause-piece : goal.returns-clause-piece
+returns-clause-piece c =
+    let f = c.refill.new.front in
+    let count = c.min-count.result in
+    let buffer = c.args.buffer.now in
+    let rest = text_from c.self.inside.encoded.now f.next in
+    let bytes : c.as_bytes.result.now ≡ c.refill.new.front.piece.bytes = c.as_bytes.ensures.value ∙ c.as_str.ensures.value in
+    let after : c.copy_from_slice.new.self ≡ take c.min-count.result (drop c.refill.new.front.given c.refill.new.front.piece.bytes) =
+    c.copy_from_slice.ensures.after ∙ ap (take count) (slice_left c.as_bytes.result.now f.given) ∙ ap (λ (bs : List ℕ). take count (drop f.given bs)) bytes in
+    let left = length-drop f.given c.as_bytes.result.now in
+    let whole = ap length (slice_left c.as_bytes.result.now f.given) in
+    let long = ap (λ (bs : List ℕ). length (drop f.given bs)) bytes in
+    let few = c.min-count.ensures in
+    sym c.self.view_is ∙ sym c.refill.ensures.rest ∙ given_text f.piece.bytes rest buffer f.given count (omega arith)
+    ∙ ap (λ (xs : List ℕ). take count (xs ++ drop count buffer) ++ (drop (f.given + count) f.piece.bytes ++ rest)) (sym after)
