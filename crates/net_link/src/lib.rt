@@ -2,7 +2,6 @@
 //! are on them. `Link` is one end of a connection, `Dial` makes connections, `Cut` ends one whose reader waits, `Door` takes them in.
 #![tactic(auto)]
 
-mod calls;
 mod dial;
 mod link;
 mod mem_dial;

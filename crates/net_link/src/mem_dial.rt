@@ -3,10 +3,9 @@
 ghost use Rattle.std.specs.Prelude.{◌≡◌, [], IfOk, Some};
 ghost use Rattle.sby_edge.specs.Calls.{uncalled};
 
-use crate::calls::Calls;
 use crate::dial::{Cut, Dial};
 use crate::mem_link::{LinkScript, MemLink};
-use sby_edge::{Fail, Failed};
+use sby_edge::{Calls, Fail, Failed};
 use std::alloc::{AllocError, Global};
 
 /// What cuts a link in memory, of which it takes no notice. Contracts see its calls.

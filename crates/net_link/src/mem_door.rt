@@ -3,10 +3,9 @@
 ghost use Rattle.std.specs.Prelude.{◌≡◌, ◌≤◌, [], None, Some, IfOk, IfSome, OnErr, OnOk, drop, length, map, option_map, string_bytes};
 ghost use Rattle.net_link.specs.Doors.{returned};
 
-use crate::calls::Calls;
 use crate::dial::Door;
 use crate::mem_link::{LinkScript, MemLink};
-use sby_edge::{Fail, Failed, Memory};
+use sby_edge::{Calls, Fail, Failed, Memory};
 use std::alloc::Global;
 
 /// Takes in links in memory, one for each script, in their order, and keeps those that come back. The calls that its maker lists fail,

@@ -7,9 +7,8 @@ ghost use Rattle.sby_edge.specs.Memory.{IsFull};
 ghost use Rattle.sby_edge.specs.Sink.{Takes};
 ghost use Rattle.net_link.specs.Link.{Receives};
 
-use crate::calls::Calls;
 use crate::link::Link;
-use sby_edge::Failed;
+use sby_edge::{Calls, Failed};
 use std::alloc::{AllocError, Global};
 use std::marker::Model;
 

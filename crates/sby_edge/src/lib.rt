@@ -17,6 +17,7 @@ mod source;
 mod stage;
 mod told;
 
+pub use calls::Calls;
 pub use child::{Clock, Hold, Launch, Pipe, Yard};
 pub use job_file::{FileReader, JobFile};
 pub use list_clock::ListClock;
