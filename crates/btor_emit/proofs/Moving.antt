@@ -8,14 +8,13 @@ use Rattle.sby_bits.specs.Rows.{Row}
 use Rattle.btor_core.specs.Fits.{IsBtor}
 use Rattle.btor_core.specs.Meaning.{Values}
 use Rattle.btor_core.specs.Shape.{BtorOf}
-use Rattle.btor_core.specs.declared.line.Word.{Word}
 use Rattle.btor_words.proofs.Emitting.{both}
 use Rattle.btor_emit.specs.Emitting.{AreAliased, Gives}
 use Rattle.btor_emit.specs.Nodes.{IsMove}
-use Rattle.btor_emit.specs.Table.{AreIn, AreSeats, Puts, Table, cycle_of}
+use Rattle.btor_emit.specs.Table.{AreIn, AreSeats, Table, cycle_of}
 use Rattle.btor_emit.proofs.Gathering.{place_in_front, place_in_part}
 use Rattle.btor_emit.proofs.Giving.{aliased, row_drop, row_take}
-use Rattle.btor_emit.proofs.OperandRows.{still_in, weaker}
+use Rattle.btor_emit.proofs.OperandRows.{still_in}
 use Rattle.model_core.specs.Meaning.{Cycle, node_fn, row_at}
 use Rattle.model_core.specs.Served.{HasWidths}
 use Rattle.model_core.specs.Shape.{IsDistinct}
@@ -47,9 +46,6 @@ pub gives_as : (m0 m1 : BtorOf) (t0 t1 : Table) (y : List ℕ) (j k : ℕ) (f g 
 gives_as m0 m1 t0 t1 y j k f g x fits is =
     let s = x.adds in
     record { adds = record { btor = s.btor; grows = s.grows; lists = s.lists; opened = s.opened; few = (let a = s.few in omega arith); holds = λ vs h. s.holds vs h ∙ is vs }; size = x.size; seats = x.seats; same = x.same }
-
-pub puts_as : (m0 m1 : BtorOf) (t0 t1 : Table) (a : Word) (v w j k : ℕ) (f : Values → Row) → Puts m0 m1 t0 t1 a v j f → v ≡ w → j ≤ k → Puts m0 m1 t0 t1 a w k f
-puts_as m0 m1 t0 t1 a v w j k f x e fits = record { turns = weaker m0 m1 t0 t1 j k _ _ x.turns fits (λ vs h p. p); word = x.word; size = x.size ∙ e }
 
 -- a part of the places
 pub slice_row : (c : Cycle) (w offset : ℕ) (a : List ℕ) → row_at c (take w (drop offset a)) ≡ take w (drop offset (row_at c a))

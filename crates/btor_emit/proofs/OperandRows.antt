@@ -1,8 +1,10 @@
 -- Rows of nodes by those of their operands.
-use Rattle.std.proofs.Common.{◌≡◌, ℕ, ◌+◌, ◌*◌, ◌≤◌, List, length, sym, ◌∙◌, ap, arith}
+use Rattle.std.proofs.Common.{◌≡◌, ℕ, ◌+◌, ◌*◌, ◌≤◌, List, [], length, sym, ◌∙◌, ap, arith}
+use Rattle.std.specs.Prelude.{IfOk, Result, Ok, Err}
 use Rattle.sby_bits.specs.Rows.{Row}
 use Rattle.btor_core.specs.Meaning.{Values, Holds}
 use Rattle.btor_core.specs.Shape.{BtorOf}
+use Rattle.btor_core.specs.declared.draft.DraftFault.{DraftFault}
 use Rattle.btor_core.specs.declared.line.Word.{Word}
 use Rattle.btor_core.proofs.Choosing.{front_holds}
 use Rattle.btor_words.specs.Emitting.{Adds, Emits}
@@ -10,7 +12,8 @@ use Rattle.btor_words.proofs.Emitting.{both, still}
 use Rattle.btor_emit.specs.Nodes.{ArePut}
 use Rattle.btor_emit.specs.Table.{AreIn, Puts, Table, Turns, cycle_of}
 use Rattle.btor_emit.proofs.Gathering.{seats_stay}
-use Rattle.model_core.specs.Meaning.{row_at}
+use Rattle.model_core.specs.Meaning.{node_fn, row_at}
+use Rattle.model_core.specs.declared.op.Op.{Op}
 use Rattle.model_core.proofs.Fitting.{length-row_at}
 use Rattle.model_core.proofs.Writing.{row_same}
 
@@ -84,6 +87,18 @@ put_by_sizes m0 m1 m2 t0 t1 a b l r x k most w F p e fits =
           let la : l.width ≡ length (row_at (cycle_of t0 vs) a) = p.left_size ∙ sym (length-row_at (cycle_of t0 vs) a) in
           let lb : r.width ≡ length (row_at (cycle_of t0 vs) b) = p.right_size ∙ sym (length-row_at (cycle_of t0 vs) b) in
           u ∙ ap (λ (n : ℕ). F n r.width (row_at (cycle_of t0 vs) a) (row_at (cycle_of t0 vs) b)) la ∙ ap (λ (n : ℕ). F (length (row_at (cycle_of t0 vs) a)) n (row_at (cycle_of t0 vs) a) (row_at (cycle_of t0 vs) b)) lb);
+      word = q.word;
+      size = q.size;
+    }
+
+-- what comes of a cell of two operands
+pub of_two : (m0 m1 m2 : BtorOf) (t0 t1 : Table) (a b : List ℕ) (l r : Word) (result : Result Word DraftFault) (k w : ℕ) (o : Op) (F : ℕ → ℕ → Row → Row → Row) → ArePut m0 m1 t0 t1 a b l r → IfOk result (λ x. Emits m1 m2 x w k (λ vs. F l.width r.width (vs l.nid) (vs r.nid))) → k ≤ 20
+    → ((y z : Row) → F (length y) (length z) y z ≡ node_fn o w y z []) → IfOk result (λ x. Puts m0 m2 t0 t1 x w (4 * length a + 4 * length b + 20) (λ vs. node_fn o w (row_at (cycle_of t0 vs) a) (row_at (cycle_of t0 vs) b) []))
+of_two m0 m1 m2 t0 t1 a b l r (Err e) k w o F p h fits is = tt
+of_two m0 m1 m2 t0 t1 a b l r (Ok x) k w o F p h fits is =
+    let q = put_by_sizes m0 m1 m2 t0 t1 a b l r x k (4 * length a + 4 * length b + 20) w F p h (omega (arith, fits)) in
+    record {
+      turns = weaker m0 m2 t0 t1 (4 * length a + 4 * length b + 20) (4 * length a + 4 * length b + 20) _ (λ vs. vs x.nid ≡ node_fn o w (row_at (cycle_of t0 vs) a) (row_at (cycle_of t0 vs) b) []) q.turns (omega arith) (λ vs g u. u ∙ is (row_at (cycle_of t0 vs) a) (row_at (cycle_of t0 vs) b));
       word = q.word;
       size = q.size;
     }

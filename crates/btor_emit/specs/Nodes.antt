@@ -46,6 +46,25 @@ IsMove op.Bmux = ⊥
 IsMove (op.Slice offset) = Unit {0}
 IsMove op.Concat = Unit {0}
 
+-- cells of two operands that neither choose between rows nor move bits
+abbrev pub HasTwo : Op → Type 0
+HasTwo op.Copy = ⊥
+HasTwo (op.Unary k signed) = ⊥
+HasTwo (op.Binary k signed) = Unit {0}
+HasTwo (op.Reduce k) = ⊥
+HasTwo (op.Logic k) = Unit {0}
+HasTwo (op.Compare k signed) = Unit {0}
+HasTwo (op.ShiftLeft signed) = Unit {0}
+HasTwo (op.ShiftRight signed) = Unit {0}
+HasTwo (op.ShiftSign signed) = Unit {0}
+HasTwo (op.ShiftAny signed by_signed) = Unit {0}
+HasTwo (op.Divide k signed) = Unit {0}
+HasTwo op.Mux = ⊥
+HasTwo op.Pmux = ⊥
+HasTwo op.Bmux = ⊥
+HasTwo (op.Slice offset) = ⊥
+HasTwo op.Concat = ⊥
+
 -- these nodes give what they do in this cycle
 abbrev pub AreDone : ModelOf → Cycle → ℕ → Type 0
 AreDone m c i = (j : ℕ) (n : NodeOf) → j < i → slice_get m.nodes j ≡ Some n → row_at c n.y ≡ row_of_node c n

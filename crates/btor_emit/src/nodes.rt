@@ -10,10 +10,7 @@ ghost use Rattle.model_core.specs.Served.{HasWidths, IsModel};
 ghost use Rattle.model_core.specs.Shape.{IsDistinct};
 
 use crate::choices::{bmux_node, mux_node, pmux_node};
-use crate::operands::{
-    binary_node, compare_node, divide_node, logic_node, reduce_node, shift_any_node,
-    shift_left_node, shift_right_node, shift_sign_node, unary_node,
-};
+use crate::operands::{reduce_node, two_node, unary_node};
 use crate::table::{Seat, alias, gather, give};
 use btor_core::draft::{Draft, DraftFault};
 use btor_core::line::Word;
@@ -41,17 +38,15 @@ fn word_of(
 {
     match op {
         Op::Unary(kind, signed) => unary_node(draft, table, kind, signed, a, width),
-        Op::Binary(kind, signed) => binary_node(draft, table, kind, signed, a, b, width),
         Op::Reduce(kind) => reduce_node(draft, table, kind, a, width),
-        Op::Logic(kind) => logic_node(draft, table, kind, a, b, width),
-        Op::Compare(kind, signed) => compare_node(draft, table, kind, signed, a, b, width),
-        Op::ShiftLeft(signed) => shift_left_node(draft, table, signed, a, b, width),
-        Op::ShiftRight(signed) => shift_right_node(draft, table, signed, a, b, width),
-        Op::ShiftSign(signed) => shift_sign_node(draft, table, signed, a, b, width),
-        Op::ShiftAny(signed, by_signed) => {
-            shift_any_node(draft, table, signed, by_signed, a, b, width)
-        }
-        Op::Divide(kind, signed) => divide_node(draft, table, kind, signed, a, b, width),
+        Op::Binary(_, _)
+        | Op::Logic(_)
+        | Op::Compare(_, _)
+        | Op::ShiftLeft(_)
+        | Op::ShiftRight(_)
+        | Op::ShiftSign(_)
+        | Op::ShiftAny(_, _)
+        | Op::Divide(_, _) => two_node(draft, table, op, a, b, width),
         Op::Mux => mux_node(draft, table, a, b, s),
         Op::Pmux => pmux_node(draft, table, a, b, s),
         Op::Bmux => bmux_node(draft, table, a, s, width),

@@ -1,99 +1,57 @@
 // Statements as words of one bit.
 
-ghost use Rattle.std.specs.Prelude.{◌&&◌, ◌||◌, not, [], ◌∷◌, All, IfOk, OnOk, drop, length, take};
+ghost use Rattle.std.specs.Prelude.{[], ◌∷◌, All, OnOk, drop, length, take};
 ghost use Rattle.btor_core.specs.Fits.{IsBtor};
 ghost use Rattle.btor_core.specs.Shape.{bads, constraints};
 ghost use Rattle.btor_emit.specs.Nodes.{IsReady};
 ghost use Rattle.btor_emit.specs.Said.{AreSaid, Says, is_broken, is_held, is_reached};
-ghost use Rattle.btor_emit.specs.Table.{AreSeats, Puts, cycle_of};
+ghost use Rattle.btor_emit.specs.Table.{AreSeats, cycle_of};
 ghost use Rattle.model_core.specs.Shape.{IsStatement};
 
 use crate::operands::pair;
 use crate::table::Seat;
 use btor_core::draft::{Draft, DraftFault};
-use btor_core::line::{Binary, Unary, Word};
+use btor_core::line::{Binary, Unary};
 use btor_words::{apply, join};
 use model_core::model::Statement;
 
-/// Whether an assertion is broken: EN is 1, and A is 0.
-pub fn broken(draft: &mut Draft, table: &mut [Seat], a: u32, en: u32) -> Result<Word, DraftFault>
-    requires a { IsReady draft.old table.old (a ∷ []) }
-    requires en { IsReady draft.old table.old (en ∷ []) }
-    ensures row { IfOk result (λ r. Puts draft.old draft.new table.old table.new r 1 12 (λ vs. (cycle_of table.old vs en && not (cycle_of table.old vs a)) ∷ [])) }
+// A constraint for an assumption: EN is 0, or A is 1.
+fn push_assume(draft: &mut Draft, table: &mut [Seat], cell: Statement) -> Result<(), DraftFault>
+    requires a { IsReady draft.old table.old (cell.a ∷ []) }
+    requires en { IsReady draft.old table.old (cell.en ∷ []) }
+    ensures { OnOk result (Says constraints bads draft.old draft.new table.old table.new (λ vs. is_held (cycle_of table.old vs) cell)) }
 {
-    let (value, enable) = pair(draft, table, &[a], &[en])?;
-    let low = apply(draft, Unary::Not, value, 1)?;
-    let bit = join(draft, Binary::And, enable, low, 1)?;
-    Ok(bit)
-}
-
-/// Whether an assumption holds: EN is 0, or A is 1.
-pub fn assumed(draft: &mut Draft, table: &mut [Seat], a: u32, en: u32) -> Result<Word, DraftFault>
-    requires a { IsReady draft.old table.old (a ∷ []) }
-    requires en { IsReady draft.old table.old (en ∷ []) }
-    ensures row { IfOk result (λ r. Puts draft.old draft.new table.old table.new r 1 12 (λ vs. (not (cycle_of table.old vs en) || cycle_of table.old vs a) ∷ [])) }
-{
-    let (value, enable) = pair(draft, table, &[a], &[en])?;
+    let (value, enable) = pair(draft, table, &[cell.a], &[cell.en])?;
     let off = apply(draft, Unary::Not, enable, 1)?;
     let bit = join(draft, Binary::Or, off, value, 1)?;
-    Ok(bit)
+    draft.constraint(bit)?;
+    draft.promise();
+    Ok(())
 }
 
-/// Whether a cover statement is reached: EN and A are 1.
-pub fn reached(draft: &mut Draft, table: &mut [Seat], a: u32, en: u32) -> Result<Word, DraftFault>
-    requires a { IsReady draft.old table.old (a ∷ []) }
-    requires en { IsReady draft.old table.old (en ∷ []) }
-    ensures row { IfOk result (λ r. Puts draft.old draft.new table.old table.new r 1 10 (λ vs. (cycle_of table.old vs en && cycle_of table.old vs a) ∷ [])) }
+// A bad for an assertion: EN is 1, and A is 0.
+fn push_assert(draft: &mut Draft, table: &mut [Seat], cell: Statement) -> Result<(), DraftFault>
+    requires a { IsReady draft.old table.old (cell.a ∷ []) }
+    requires en { IsReady draft.old table.old (cell.en ∷ []) }
+    ensures { OnOk result (Says bads constraints draft.old draft.new table.old table.new (λ vs. is_broken (cycle_of table.old vs) cell)) }
 {
-    let (value, enable) = pair(draft, table, &[a], &[en])?;
+    let (value, enable) = pair(draft, table, &[cell.a], &[cell.en])?;
+    let low = apply(draft, Unary::Not, value, 1)?;
+    let bit = join(draft, Binary::And, enable, low, 1)?;
+    draft.bad(bit)?;
+    draft.promise();
+    Ok(())
+}
+
+// A bad for a cover statement: EN and A are 1.
+fn push_reached(draft: &mut Draft, table: &mut [Seat], cell: Statement) -> Result<(), DraftFault>
+    requires a { IsReady draft.old table.old (cell.a ∷ []) }
+    requires en { IsReady draft.old table.old (cell.en ∷ []) }
+    ensures { OnOk result (Says bads constraints draft.old draft.new table.old table.new (λ vs. is_reached (cycle_of table.old vs) cell)) }
+{
+    let (value, enable) = pair(draft, table, &[cell.a], &[cell.en])?;
     let bit = join(draft, Binary::And, enable, value, 1)?;
-    Ok(bit)
-}
-
-// A constraint for an assumption.
-fn push_assume(
-    draft: &mut Draft,
-    table: &mut [Seat],
-    statement: Statement,
-) -> Result<(), DraftFault>
-    requires a { IsReady draft.old table.old (statement.a ∷ []) }
-    requires en { IsReady draft.old table.old (statement.en ∷ []) }
-    ensures { OnOk result (Says constraints bads draft.old draft.new table.old table.new (λ vs. is_held (cycle_of table.old vs) statement)) }
-{
-    let word = assumed(draft, table, statement.a, statement.en)?;
-    draft.constraint(word)?;
-    draft.promise();
-    Ok(())
-}
-
-// A bad for an assertion.
-fn push_assert(
-    draft: &mut Draft,
-    table: &mut [Seat],
-    statement: Statement,
-) -> Result<(), DraftFault>
-    requires a { IsReady draft.old table.old (statement.a ∷ []) }
-    requires en { IsReady draft.old table.old (statement.en ∷ []) }
-    ensures { OnOk result (Says bads constraints draft.old draft.new table.old table.new (λ vs. is_broken (cycle_of table.old vs) statement)) }
-{
-    let word = broken(draft, table, statement.a, statement.en)?;
-    draft.bad(word)?;
-    draft.promise();
-    Ok(())
-}
-
-// A bad for a cover statement.
-fn push_reached(
-    draft: &mut Draft,
-    table: &mut [Seat],
-    statement: Statement,
-) -> Result<(), DraftFault>
-    requires a { IsReady draft.old table.old (statement.a ∷ []) }
-    requires en { IsReady draft.old table.old (statement.en ∷ []) }
-    ensures { OnOk result (Says bads constraints draft.old draft.new table.old table.new (λ vs. is_reached (cycle_of table.old vs) statement)) }
-{
-    let word = reached(draft, table, statement.a, statement.en)?;
-    draft.bad(word)?;
+    draft.bad(bit)?;
     draft.promise();
     Ok(())
 }

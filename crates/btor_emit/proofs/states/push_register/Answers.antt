@@ -7,50 +7,26 @@ use Rattle.btor_emit.proofs.states.push_register.Goals as goal
 
 pub overflow_add-end : goal.overflow_add-end
 overflow_add-end c =
-    let m = c.args.model.now in
-    let i = c.args.register in
-    let span = span_of m i c.q.result.now c.requires.model.registers c.requires.register c.q.ensures in
-    let end = span.end in
-    let first = c.requires.first in
-    let inside = span.inside in
-    let bits = ap (λ (ps : List ℕ). length ps) c.states-bits.ensures in
-    omega arith
+    let span = span_of c.args.model.now c.args.register c.q.result.now c.requires.model.registers c.requires.register c.q.ensures in
+    omega (arith, span.end, c.requires.first, span.inside, ap (λ (ps : List ℕ). length ps) c.states-bits.ensures)
 
 pub loop-next-init : goal.loop-next-init
 loop-next-init c = record { low = omega arith; high = omega arith; begin = inl (c.args.register, c.requires.first); states = c.requires.states }
 
 pub stretch-stop-requires-clause-end : goal.stretch-stop-requires-clause-end
 stretch-stop-requires-clause-end c =
-    let m = c.args.model.now in
-    let i = c.args.register in
-    let span = span_of m i c.q.result.now c.requires.model.registers c.requires.register c.q.ensures in
-    let end = span.end in
-    let first = c.requires.first in
-    let inside = span.inside in
-    let same = c.requires.model.starts in
-    let long = ap (λ (ds : List (Option Bool)). length ds) c.starts.ensures in
-    omega arith
+    let span = span_of c.args.model.now c.args.register c.q.result.now c.requires.model.registers c.requires.register c.q.ensures in
+    omega (arith, span.end, c.requires.first, span.inside, c.requires.model.starts, ap (λ (ds : List (Option Bool)). length ds) c.starts.ensures)
 
 pub push_state-requires-clause-inside : goal.push_state-requires-clause-inside
 push_state-requires-clause-inside c =
-    let m = c.args.model.now in
-    let i = c.args.register in
-    let span = span_of m i c.q.result.now c.requires.model.registers c.requires.register c.q.ensures in
-    let end = span.end in
-    let first = c.requires.first in
-    let inside = span.inside in
-    let most = c.stretch-stop.ensures.most in
-    omega arith
+    let span = span_of c.args.model.now c.args.register c.q.result.now c.requires.model.registers c.requires.register c.q.ensures in
+    omega (arith, span.end, c.requires.first, span.inside, c.stretch-stop.ensures.most)
 
 pub push_state-requires-clause-width : goal.push_state-requires-clause-width
 push_state-requires-clause-width c =
-    let m = c.args.model.now in
-    let i = c.args.register in
-    let span = span_of m i c.q.result.now c.requires.model.registers c.requires.register c.q.ensures in
-    let narrow = span.narrow in
-    let most = c.stretch-stop.ensures.most in
-    let low = c.loop-next.invariant.low in
-    omega arith
+    let span = span_of c.args.model.now c.args.register c.q.result.now c.requires.model.registers c.requires.register c.q.ensures in
+    omega (arith, span.narrow, c.stretch-stop.ensures.most, c.loop-next.invariant.low)
 
 pub push_state-requires-clause-stretch : goal.push_state-requires-clause-stretch
 push_state-requires-clause-stretch c = λ a wide.
@@ -89,12 +65,6 @@ loop-next-preserved c =
 
 pub returns : goal.returns
 returns c =
-    let m = c.args.model.now in
-    let i = c.args.register in
-    let span = span_of m i c.q.result.now c.requires.model.registers c.requires.register c.q.ensures in
-    let end = span.end in
-    let first = c.requires.first in
-    let high = c.loop-next.invariant.high in
-    let test = c.loop-next-test.false in
-    let e : c.loop-next.next ≡ edge_at m (i + 1) = omega arith in
-    subst (λ (k : ℕ). AreStates m c.loop-next.draft c.loop-next.table c.loop-next.made.items k) e c.loop-next.invariant.states
+    let span = span_of c.args.model.now c.args.register c.q.result.now c.requires.model.registers c.requires.register c.q.ensures in
+    let e : c.loop-next.next ≡ edge_at c.args.model.now (c.args.register + 1) = omega (arith, span.end, c.requires.first, c.loop-next.invariant.high, c.loop-next-test.false) in
+    subst (λ (k : ℕ). AreStates c.args.model.now c.loop-next.draft c.loop-next.table c.loop-next.made.items k) e c.loop-next.invariant.states
