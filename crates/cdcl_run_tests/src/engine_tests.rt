@@ -2,10 +2,7 @@
 
 use cdcl_run::run_engine;
 use net_link::MemDoor;
-use run_scenes::{
-    ASSERT, END, HEAD, NOT, Named, Placed, REGISTER, Scene, T, is_as_told, read_scene, run,
-    script_of,
-};
+use run_scenes::{Named, Placed, Scene, is_as_told, read_scene, run, script_of};
 use sby_edge::{MemFiles, MemSink, Scripted};
 use sby_terms::JobName;
 use std::alloc::{AllocError, Global};
@@ -13,6 +10,7 @@ use std::sync::Wait;
 use std::test::Fail;
 use std::thread::Threads;
 use std::time::Clock as SystemClock;
+use test_designs::{ASSERT, COUNTED, COVERED, END, HEAD, INITIAL, NOT, REGISTER, T};
 
 // All jobs of the scenes, by the names of their files.
 const JOBS: [(&str, JobName); 8] = [
@@ -114,90 +112,6 @@ fn first_wrong<H: Threads + Wait + SystemClock + Sync + Alloc<A = Global>>(
     }
     Ok(None)
 }
-
-// A counter of two bits that must not reach 3.
-const COUNTED: &str = r"module \t
-  wire input 1 \clk
-  attribute \init 2'00
-  wire width 2 \c
-  wire width 2 \n
-  wire \ok
-  cell $add $n
-    parameter \A_SIGNED 0 parameter \A_WIDTH 2 parameter \B_SIGNED 0 parameter \B_WIDTH 2 parameter \Y_WIDTH 2
-    connect \A \c connect \B 2'01 connect \Y \n
-  end
-  cell $dff $r
-    parameter \CLK_POLARITY 1'1 parameter \WIDTH 2
-    connect \CLK \clk connect \D \n connect \Q \c
-  end
-  cell $ne $k
-    parameter \A_SIGNED 0 parameter \A_WIDTH 2 parameter \B_SIGNED 0 parameter \B_WIDTH 2 parameter \Y_WIDTH 1
-    connect \A \c connect \B 2'11 connect \Y \ok
-  end
-  cell $assert \a0 connect \A \ok connect \EN 1'1 end
-end
-";
-
-// `$initstate` through two registers, which must not come through.
-const INITIAL: &str = r"module \t
-  wire input 1 \clk
-  wire \i
-  attribute \init 1'0
-  wire \p1
-  attribute \init 1'0
-  wire \p2
-  wire \ok
-  cell $initstate $i connect \Y \i end
-  cell $dff $r1
-    parameter \CLK_POLARITY 1'1 parameter \WIDTH 1
-    connect \CLK \clk connect \D \i connect \Q \p1
-  end
-  cell $dff $r2
-    parameter \CLK_POLARITY 1'1 parameter \WIDTH 1
-    connect \CLK \clk connect \D \p1 connect \Q \p2
-  end
-  cell $not $n
-    parameter \A_SIGNED 0 parameter \A_WIDTH 1 parameter \Y_WIDTH 1
-    connect \A \p2 connect \Y \ok
-  end
-  cell $assert \a0 connect \A \ok connect \EN 1'1 end
-end
-";
-
-// A counter of two bits, with a cover statement for each value but 0.
-const COVERED: &str = r"module \t
-  wire input 1 \clk
-  attribute \init 2'00
-  wire width 2 \c
-  wire width 2 \n
-  wire \e1
-  wire \e2
-  wire \e3
-  cell $add $n
-    parameter \A_SIGNED 0 parameter \A_WIDTH 2 parameter \B_SIGNED 0 parameter \B_WIDTH 2 parameter \Y_WIDTH 2
-    connect \A \c connect \B 2'01 connect \Y \n
-  end
-  cell $dff $r
-    parameter \CLK_POLARITY 1'1 parameter \WIDTH 2
-    connect \CLK \clk connect \D \n connect \Q \c
-  end
-  cell $eq $k1
-    parameter \A_SIGNED 0 parameter \A_WIDTH 2 parameter \B_SIGNED 0 parameter \B_WIDTH 2 parameter \Y_WIDTH 1
-    connect \A \c connect \B 2'01 connect \Y \e1
-  end
-  cell $eq $k2
-    parameter \A_SIGNED 0 parameter \A_WIDTH 2 parameter \B_SIGNED 0 parameter \B_WIDTH 2 parameter \Y_WIDTH 1
-    connect \A \c connect \B 2'10 connect \Y \e2
-  end
-  cell $eq $k3
-    parameter \A_SIGNED 0 parameter \A_WIDTH 2 parameter \B_SIGNED 0 parameter \B_WIDTH 2 parameter \Y_WIDTH 1
-    connect \A \c connect \B 2'11 connect \Y \e3
-  end
-  cell $cover \v1 connect \A \e1 connect \EN 1'1 end
-  cell $cover \v2 connect \A \e2 connect \EN 1'1 end
-  cell $cover \v3 connect \A \e3 connect \EN 1'1 end
-end
-";
 
 // A register that can only fall, which is assumed to start at 0 and must stay there.
 const FALLING: &str = r"module \t

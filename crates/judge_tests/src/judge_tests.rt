@@ -7,10 +7,10 @@ ghost use Rattle.judge.specs.Problem.{IsJob};
 
 use cert_judge::{BadCert, Kind, StreamKind};
 use judge::{Finding, Judge, Problem, Progress};
-use run_scenes::{ASSERT, END, HEAD, NOT, T};
 use sby_terms::{Answer, JobName, Mode, Settled, Span};
 use std::alloc::{AllocError, Global};
 use std::test::Fail;
+use test_designs::{ASSERT, END, HEAD, NOT, T};
 
 // What a judge told: by a letter, for a finding with the number of its run's cycles, or by a refusal's number and byte.
 type Told = (u8, u64);

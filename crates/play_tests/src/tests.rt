@@ -2,7 +2,6 @@
 
 mod cells;
 mod cone;
-mod designs;
 mod played;
 mod resets;
 mod rows;

@@ -2,14 +2,12 @@
 #![tactic(auto)]
 
 mod child;
-mod design;
 mod reading;
 mod running;
 mod scene;
 mod texts;
 
 pub use child::{Child, FINDS, script_of};
-pub use design::{ASSERT, END, HEAD, NOT, REGISTER, T};
 pub use reading::read_scene;
 pub use running::{Ended, Ran, first_wrong, is_as_told, run, run_into};
 pub use scene::{Placed, Scene};

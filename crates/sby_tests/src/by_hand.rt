@@ -3,13 +3,14 @@
 ghost use Rattle.std.specs.Prelude.{None};
 
 use crate::names::NAMES;
-use run_scenes::{Placed, Scene, T, is_as_told, owned, read_scene, run, run_into};
+use run_scenes::{Placed, Scene, is_as_told, owned, read_scene, run, run_into};
 use sby_edge::{Failed, Files, MemFiles, Sink, StillClock};
 use std::alloc::{AllocError, Global};
 use std::sync::Wait;
 use std::test::Fail;
 use std::thread::Threads;
 use std::time::Clock as SystemClock;
+use test_designs::T;
 
 // Output that takes at most seven bytes at a time.
 #[derive(Drop)]

@@ -1,6 +1,7 @@
 // The texts that scenes name.
 
-use run_scenes::{ASSERT, END, HEAD, NOT, Named, REGISTER, T};
+use run_scenes::Named;
+use test_designs::{ASSERT, END, HEAD, NOT, REGISTER, T};
 
 const OPEN_HEAD: &str = "module \\t\n wire input 1 \\clk\n wire \\q\n wire \\d\n";
 

@@ -9,51 +9,11 @@ use design_reader::read;
 use source_rows::source_rows;
 use std::alloc::Global;
 use std::test::Fail;
+use test_designs::{COUNTED, T};
 use word_model::build::build;
-
-// A bit that is turned in each cycle, from 0 on, and must be 1 before it is.
-const TURNED: &str = r"module \t
-  wire input 1 \clk
-  attribute \init 1'0
-  wire \q
-  wire \d
-  cell $not $n
-    parameter \A_SIGNED 0 parameter \A_WIDTH 1 parameter \Y_WIDTH 1
-    connect \A \q connect \Y \d
-  end
-  cell $dff $r
-    parameter \CLK_POLARITY 1'1 parameter \WIDTH 1
-    connect \CLK \clk connect \D \d connect \Q \q
-  end
-  cell $assert \a0 connect \A \d connect \EN 1'1 end
-end
-";
 
 const TURNED_LINES: &str =
     "1 sort bitvec 1\n2 zero 1\n3 state 1\n4 init 1 3 2\n5 not 1 3\n6 next 1 3 5\n7 ones 1\n8 not 1 5\n9 and 1 7 8\n10 bad 9\n";
-
-// A counter of two bits that must not reach 3.
-const COUNTED: &str = r"module \t
-  wire input 1 \clk
-  attribute \init 2'00
-  wire width 2 \c
-  wire width 2 \n
-  wire \ok
-  cell $add $n
-    parameter \A_SIGNED 0 parameter \A_WIDTH 2 parameter \B_SIGNED 0 parameter \B_WIDTH 2 parameter \Y_WIDTH 2
-    connect \A \c connect \B 2'01 connect \Y \n
-  end
-  cell $dff $r
-    parameter \CLK_POLARITY 1'1 parameter \WIDTH 2
-    connect \CLK \clk connect \D \n connect \Q \c
-  end
-  cell $ne $k
-    parameter \A_SIGNED 0 parameter \A_WIDTH 2 parameter \B_SIGNED 0 parameter \B_WIDTH 2 parameter \Y_WIDTH 1
-    connect \A \c connect \B 2'11 connect \Y \ok
-  end
-  cell $assert \a0 connect \A \ok connect \EN 1'1 end
-end
-";
 
 // A register of three bits, of which the middle one may start with either value, with an enable, under an assumption on an input.
 const KEPT: &str = r"module \t
@@ -147,7 +107,7 @@ fn text_of(alloc: Global, design: &str, goal: Goal) -> Result<Vec<u8>, Fail> {
 
 #[test]
 fn designs_are_written_whole(rt: HostRuntime) -> Result<(), Fail> {
-    let text = text_of(rt.alloc(), TURNED, Goal::Asserts)?;
+    let text = text_of(rt.alloc(), T, Goal::Asserts)?;
     assert!(rt; text.as_slice() == TURNED_LINES.as_bytes());
     let text = text_of(rt.alloc(), COUNTED, Goal::Asserts)?;
     assert!(rt; text.as_slice() == COUNTED_LINES.as_bytes());

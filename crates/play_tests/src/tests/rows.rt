@@ -1,8 +1,8 @@
 // The rows of whole runs.
 
-use crate::tests::designs::{COUNTED, COVERED, INITIAL};
 use crate::tests::played::{play, trace};
 use std::test::Fail;
+use test_designs::{COUNTED, COVERED, INITIAL};
 
 const COUNTED_RUN: &str = r"cycle 0
 \clk 0
