@@ -1,6 +1,6 @@
 // Deletions. The checker's contract says what they do; here they have to end within the time of a test.
 
-ghost use Rattle.std.specs.Prelude.{◌≡◌, ◌≤◌, IfOk};
+ghost use Rattle.std.specs.Prelude.{◌≡◌, ◌<◌, ◌≤◌, IfOk};
 ghost use Rattle.cnf_form.specs.Cnf.{ClauseWithin};
 ghost use Rattle.cnf_form.specs.declared.literal.TheConstants.{MAX_VARS};
 
@@ -77,13 +77,17 @@ fn pairs_of_one_literal_are_deleted(rt: HostRuntime) -> Result<(), Fail> {
     Ok(())
 }
 
-// Two literals, of which the second stands there this many times.
-fn repeated(alloc: Global, vars: u32, times: u32) -> Result<Vec<Lit>, AllocError>
-    requires { 2 ≤ vars }
+// 1 and another variable, and then 2 this many times.
+fn repeated(alloc: Global, vars: u32, other: u32, times: u32) -> Result<Vec<Lit>, AllocError>
+    requires least { 2 ≤ vars }
+    requires limit { vars ≤ MAX_VARS }
+    requires some { 0 < other }
+    requires within { other ≤ vars }
     ensures { IfOk result (λ line. ClauseWithin vars line.items) }
 {
     let mut line = Vec::new(alloc);
     line.push(Lit::new(1, false))?;
+    line.push(Lit::new(other, false))?;
     for time in 0..times {
         line.push(Lit::new(2, false))?;
     }
@@ -97,7 +101,7 @@ fn delete_by_long_lines(alloc: Global, vars: u32, copies: u32, lines: u32) -> Re
 {
     let pair = [Lit::new(1, false), Lit::new(2, false)];
     let mut checker = of_copies(alloc, vars, &pair, copies)?;
-    let line = repeated(alloc, vars, vars - 1)?;
+    let line = repeated(alloc, vars, 2, vars - 2)?;
     delete_times(&mut checker, &line, lines);
     Ok(())
 }
@@ -107,5 +111,44 @@ fn delete_by_long_lines(alloc: Global, vars: u32, copies: u32, lines: u32) -> Re
 #[test]
 fn deletions_that_repeat_a_literal_are_counted_once(rt: HostRuntime) -> Result<(), Fail> {
     delete_by_long_lines(rt.alloc(), 33_000, 700_000, 2000)?;
+    Ok(())
+}
+
+// A variable such that a clause of 1, 2 and it begins on the chain of 1 and 2.
+const AIMED: u32 = 123_717;
+
+// Minutes where each deletion passes all copies of another clause, which is aimed at the chain of its own.
+#[test]
+fn copies_on_the_chain_of_another_clause_are_passed_once(rt: HostRuntime) -> Result<(), Fail> {
+    let pair = [Lit::new(1, false), Lit::new(2, false)];
+    let aimed = [
+        Lit::new(1, false),
+        Lit::new(2, false),
+        Lit::new(AIMED, false),
+    ];
+    let mut checker = of_copies(rt.alloc(), AIMED, &aimed, 300_000)?;
+    delete_times(&mut checker, &pair, 20_000);
+    Ok(())
+}
+
+// Minutes where a deletion goes through its line again for each clause on its chain that is a subset of it.
+#[test]
+fn long_lines_pass_subsets(rt: HostRuntime) -> Result<(), Fail> {
+    let pair = [Lit::new(1, false), Lit::new(2, false)];
+    let mut checker = of_copies(rt.alloc(), AIMED, &pair, 300_000)?;
+    let line = repeated(rt.alloc(), AIMED, AIMED, 30_000)?;
+    delete_times(&mut checker, &line, 10);
+    Ok(())
+}
+
+// Minutes where each deletion of a reason, which stays, goes through the clause.
+#[test]
+fn long_reasons_are_not_searched(rt: HostRuntime) -> Result<(), Fail> {
+    let mut long = Vec::new(rt.alloc());
+    for time in 0..600_000 {
+        long.push(Lit::new(1, false))?;
+    }
+    let mut checker = of_copies(rt.alloc(), 1, &long, 1)?;
+    delete_times(&mut checker, &[Lit::new(1, false)], 20_000);
     Ok(())
 }

@@ -67,20 +67,20 @@ module _ (p q : PropagatorOf) (c : List LitOf) (r : IsRoot p) (w : IsAdded p c q
         | inr n ↦ w.falsified n e
       ]
 
-  pub filed_added : (t t' : CopiesOf) (h n : ℕ) → IsFiled p t → ((a k : ℕ) → Holds t a k → Holds t' a k) → n ≡ length p.slots
-      → t'.count ≡ n + 1 → n < length t'.nexts → Weighs c h → Holds t' h n → IsFiled q t'
-  filed_added t t' h n f keeps size count place weighs held = record { each = each; counted = omega (arith, size, count, grown); placed = omega (arith, size, place, grown) }
+  pub filed_added : (salt : ℕ) (t t' : CopiesOf) (h n : ℕ) → IsFiled p salt t → ((a k : ℕ) → Holds t a k → Holds t' a k) → n ≡ length p.slots
+      → t'.count ≡ n + 1 → n < length t'.nexts → Weighs salt c h → Holds t' h n → IsFiled q salt t'
+  filed_added salt t t' h n f keeps size count place weighs held = record { each = each; counted = omega (arith, size, count, grown); placed = omega (arith, size, place, grown) }
     where
       grown : length q.slots ≡ length p.slots + 1
       grown = ap length w.slots ∙ length_push p.slots (Some c)
 
-      each : (k : ℕ) (d : List LitOf) → slot_at q.slots k ≡ Some d → (a : ℕ) × Weighs d a × Holds t' a k
+      each : (k : ℕ) (d : List LitOf) → slot_at q.slots k ≡ Some d → (a : ℕ) × Weighs salt d a × Holds t' a k
       each k d e =
           let e' : slot_at (p.slots ++ Some c ∷ []) k ≡ Some d = subst (λ z. slot_at z k ≡ Some d) w.slots e in
           elim (cases_eq k (length p.slots)) [
             | inl s ↦ let g : Some c ≡ Some d = sym (get_or_push p.slots (Some c) None k (sym s)) ∙ e' in
                 let same : c ≡ d = cc in
-                (h, subst (λ z. Weighs z h) same weighs, subst (Holds t' h) (size ∙ sym s) held)
+                (h, subst (λ z. Weighs salt z h) same weighs, subst (Holds t' h) (size ∙ sym s) held)
             | inr ne ↦ let inside : k < length p.slots = omega (arith, slot_room (p.slots ++ Some c ∷ []) k d e', length_push p.slots (Some c), ne) in
                 let v = f.each k d (sym (get_or_append_left p.slots (Some c ∷ []) None k inside) ∙ e') in
                 (v.0, v.1, keeps v.0 k v.2)
@@ -102,8 +102,8 @@ module _ (p q : PropagatorOf) (w : IsOutOfMemory p q) where
         falsified = λ e. subst (HasFalsified q.trail) (sym clauses_out_of_memory) (subst (λ z. HasFalsified z (clauses_of p.slots)) (sym s.2) (r.falsified (sym s.3 ∙ e)));
       }
 
-  pub filed_out_of_memory : (t t' : CopiesOf) → ((a k : ℕ) → Holds t a k → Holds t' a k) → t'.count ≡ t.count → length t'.nexts ≡ length t.nexts + 1 → IsFiled p t → IsFiled q t'
-  filed_out_of_memory t t' keeps count place f = record { each = each; counted = omega (arith, count, f.counted, grown.0); placed = omega (arith, place, f.placed, grown.1) }
+  pub filed_out_of_memory : (salt : ℕ) (t t' : CopiesOf) → ((a k : ℕ) → Holds t a k → Holds t' a k) → t'.count ≡ t.count → length t'.nexts ≡ length t.nexts + 1 → IsFiled p salt t → IsFiled q salt t'
+  filed_out_of_memory salt t t' keeps count place f = record { each = each; counted = omega (arith, count, f.counted, grown.0); placed = omega (arith, place, f.placed, grown.1) }
     where
       grown : (length p.slots ≤ length q.slots) × (length q.slots ≤ length p.slots + 1)
       grown = elim w.0 [
@@ -122,7 +122,7 @@ module _ (p q : PropagatorOf) (w : IsOutOfMemory p q) where
             ]
       ]
 
-      each : (k : ℕ) (d : List LitOf) → slot_at q.slots k ≡ Some d → (a : ℕ) × Weighs d a × Holds t' a k
+      each : (k : ℕ) (d : List LitOf) → slot_at q.slots k ≡ Some d → (a : ℕ) × Weighs salt d a × Holds t' a k
       each k d e =
           let v = f.each k d (back k d e) in
           (v.0, v.1, keeps v.0 k v.2)
@@ -150,13 +150,13 @@ module _ (p : PropagatorOf) (k : ℕ) (c d : List LitOf) (at : slot_at p.slots k
     falsified = λ e. absurd (let f : true ≡ false = sym e ∙ free in cc);
   }
 
-  pub filed_without : (t : CopiesOf) → IsFiled p t → IsFiled without t
-  filed_without t f = record { each = each; counted = omega (arith, f.counted, same_size); placed = omega (arith, f.placed, same_size) }
+  pub filed_without : (salt : ℕ) (t : CopiesOf) → IsFiled p salt t → IsFiled without salt t
+  filed_without salt t f = record { each = each; counted = omega (arith, f.counted, same_size); placed = omega (arith, f.placed, same_size) }
     where
       same_size : length (set p.slots k None) ≡ length p.slots
       same_size = length-set p.slots k None
 
-      each : (j : ℕ) (x : List LitOf) → slot_at (set p.slots k None) j ≡ Some x → (a : ℕ) × Weighs x a × Holds t a j
+      each : (j : ℕ) (x : List LitOf) → slot_at (set p.slots k None) j ≡ Some x → (a : ℕ) × Weighs salt x a × Holds t a j
       each j x e =
           elim (cases_eq j k) [
             | inl s ↦ absurd (let g : None ≡ Some x = sym (get_or-set_same p.slots k None None (slot_room p.slots k d at)) ∙ subst (λ n. slot_at (set p.slots k None) n ≡ Some x) s e in cc)
@@ -175,50 +175,50 @@ module _ (p : PropagatorOf) (k : ℕ) (c d : List LitOf) (at : slot_at p.slots k
   deletes_without r free calm kept = inl (removes_at p.slots k c d at same, calm, kept)
 
 -- a search leaves what is present on its chain
-pub filed_kept : (p : PropagatorOf) (t t' : CopiesOf) → Keeps p.slots t t' → IsFiled p t → IsFiled p t'
-filed_kept p t t' k f = record {
+pub filed_kept : (p : PropagatorOf) (salt : ℕ) (t t' : CopiesOf) → Keeps p.slots t t' → IsFiled p salt t → IsFiled p salt t'
+filed_kept p salt t t' k f = record {
   each = λ j c e. let v = f.each j c e in (v.0, v.1, k.each v.0 j c e v.2);
   counted = omega (arith, k.count, f.counted);
   placed = omega (arith, k.places, f.placed);
 }
 
 -- the clauses below a number are on their chains
-abbrev pub IsFiledTo : PropagatorOf → CopiesOf → ℕ → Type 0
-IsFiledTo p t k = (j : ℕ) (d : List LitOf) → j < k → slot_at p.slots j ≡ Some d → (h : ℕ) × Weighs d h × Holds t h j
+abbrev pub IsFiledTo : PropagatorOf → ℕ → CopiesOf → ℕ → Type 0
+IsFiledTo p salt t k = (j : ℕ) (d : List LitOf) → j < k → slot_at p.slots j ≡ Some d → (h : ℕ) × Weighs salt d h × Holds t h j
 
-pub filed_more : (p : PropagatorOf) (t t' : CopiesOf) (k h : ℕ) (c : List LitOf) → slot_at p.slots k ≡ Some c → Weighs c h → Holds t' h k → ((a j : ℕ) → Holds t a j → Holds t' a j)
-    → IsFiledTo p t k → IsFiledTo p t' (k + 1)
-filed_more p t t' k h c at weighs held keeps f j d b e =
+pub filed_more : (p : PropagatorOf) (salt : ℕ) (t t' : CopiesOf) (k h : ℕ) (c : List LitOf) → slot_at p.slots k ≡ Some c → Weighs salt c h → Holds t' h k → ((a j : ℕ) → Holds t a j → Holds t' a j)
+    → IsFiledTo p salt t k → IsFiledTo p salt t' (k + 1)
+filed_more p salt t t' k h c at weighs held keeps f j d b e =
     elim (cases_eq j k) [
       | inl q ↦ let g : Some c ≡ Some d = sym at ∙ subst (λ z. slot_at p.slots z ≡ Some d) q e in
           let same : c ≡ d = cc in
-          (h, subst (λ z. Weighs z h) same weighs, subst (Holds t' h) (sym q) held)
+          (h, subst (λ z. Weighs salt z h) same weighs, subst (Holds t' h) (sym q) held)
       | inr ne ↦ let v = f j d (omega (arith, b, ne)) e in (v.0, v.1, keeps v.0 j v.2)
     ]
 
-pub filed_none : (p : PropagatorOf) (t : CopiesOf) (k : ℕ) → slot_at p.slots k ≡ None → IsFiledTo p t k → IsFiledTo p t (k + 1)
-filed_none p t k at f j d b e =
+pub filed_none : (p : PropagatorOf) (salt : ℕ) (t : CopiesOf) (k : ℕ) → slot_at p.slots k ≡ None → IsFiledTo p salt t k → IsFiledTo p salt t (k + 1)
+filed_none p salt t k at f j d b e =
     elim (cases_eq j k) [
       | inl q ↦ absurd (let g : None ≡ Some d = sym at ∙ subst (λ z. slot_at p.slots z ≡ Some d) q e in cc)
       | inr ne ↦ f j d (omega (arith, b, ne)) e
     ]
 
-pub checker_out_of_memory : (p q : PropagatorOf) (t t' : CopiesOf) (marks others : List Bool) → IsOutOfMemory p q → ((a k : ℕ) → Holds t a k → Holds t' a k)
-    → t'.count ≡ t.count → length t'.nexts ≡ length t.nexts + 1 → IsRoot p → IsFree (clauses_of p.slots) marks → IsFree (clauses_of p.slots) others → IsFiled p t
-    → IsRoot q × IsFree (clauses_of q.slots) marks × IsFree (clauses_of q.slots) others × IsFiled q t'
-checker_out_of_memory p q t t' marks others w keeps count place r m o f =
+pub checker_out_of_memory : (p q : PropagatorOf) (salt : ℕ) (t t' : CopiesOf) (marks others : List Bool) → IsOutOfMemory p q → ((a k : ℕ) → Holds t a k → Holds t' a k)
+    → t'.count ≡ t.count → length t'.nexts ≡ length t.nexts + 1 → IsRoot p → IsFree (clauses_of p.slots) marks → IsFree (clauses_of p.slots) others → IsFiled p salt t
+    → IsRoot q × IsFree (clauses_of q.slots) marks × IsFree (clauses_of q.slots) others × IsFiled q salt t'
+checker_out_of_memory p q salt t t' marks others w keeps count place r m o f =
     let e = sym (clauses_out_of_memory p q w) in
-    (root_out_of_memory p q w r, subst (λ F. IsFree F marks) e m, subst (λ F. IsFree F others) e o, filed_out_of_memory p q w t t' keeps count place f)
+    (root_out_of_memory p q w r, subst (λ F. IsFree F marks) e m, subst (λ F. IsFree F others) e o, filed_out_of_memory p q w salt t t' keeps count place f)
 
-pub checker_added : (p q : PropagatorOf) (c : List LitOf) (t t' : CopiesOf) (marks others : List Bool) (h n : ℕ) → IsAdded p c q → ((a k : ℕ) → Holds t a k → Holds t' a k)
-    → n ≡ length p.slots → t'.count ≡ n + 1 → n < length t'.nexts → Weighs c h → Holds t' h n → IsRoot p → HasPlaces marks c → HasPlaces others c
-    → IsFree (clauses_of p.slots) marks → IsFree (clauses_of p.slots) others → IsFiled p t → IsRoot q × IsFree (clauses_of q.slots) marks × IsFree (clauses_of q.slots) others × IsFiled q t'
-checker_added p q c t t' marks others h n w keeps size count place weighs held r in_marks in_others m o f =
+pub checker_added : (p q : PropagatorOf) (c : List LitOf) (salt : ℕ) (t t' : CopiesOf) (marks others : List Bool) (h n : ℕ) → IsAdded p c q → ((a k : ℕ) → Holds t a k → Holds t' a k)
+    → n ≡ length p.slots → t'.count ≡ n + 1 → n < length t'.nexts → Weighs salt c h → Holds t' h n → IsRoot p → HasPlaces marks c → HasPlaces others c
+    → IsFree (clauses_of p.slots) marks → IsFree (clauses_of p.slots) others → IsFiled p salt t → IsRoot q × IsFree (clauses_of q.slots) marks × IsFree (clauses_of q.slots) others × IsFiled q salt t'
+checker_added p q c salt t t' marks others h n w keeps size count place weighs held r in_marks in_others m o f =
     let e = sym (ap clauses_of w.slots ∙ clauses_push p.slots c) in (
       root_added p q c r w,
       subst (λ F. IsFree F marks) e (free_push (clauses_of p.slots) c marks in_marks m),
       subst (λ F. IsFree F others) e (free_push (clauses_of p.slots) c others in_others o),
-      filed_added p q c r w t t' h n f keeps size count place weighs held,
+      filed_added p q c r w salt t t' h n f keeps size count place weighs held,
     )
 
 pub checker_of : (v v' : ℕ) (F G : List (List LitOf)) (r o : Bool) → v ≡ v' → F ≡ G → (let k : CheckerOf = record { vars = v; clauses = F; refuted = r; out_of_memory = o } in k) ≡ record { vars = v'; clauses = G; refuted = r; out_of_memory = o }
@@ -227,12 +227,12 @@ checker_of v v' F G r o e f =
     ap (λ a. mk a F) e ∙ ap (mk v') f
 
 -- no copy is found where its chain has none
-pub not_present : (p : PropagatorOf) (t : CopiesOf) (marks : List Bool) (c : List LitOf) (w : ℕ) → w ≡ weight marks → Shows marks c
-    → ((n k : ℕ) (d : List LitOf) → after t.nexts (beginning t.firsts w) n ≡ k + 1 → slot_at p.slots k ≡ Some d → SameClause c d → ⊥) → IsFiled p t → (d : List LitOf) → Contains (clauses_of p.slots) d → SameClause c d → ⊥
-not_present p t marks c w e shows none f d h s =
+pub not_present : (p : PropagatorOf) (salt : ℕ) (t : CopiesOf) (marks : List Bool) (c : List LitOf) (w : ℕ) → w ≡ weight salt marks → Shows marks c
+    → ((n k : ℕ) (d : List LitOf) → after t.nexts (beginning t.firsts w) n ≡ k + 1 → slot_at p.slots k ≡ Some d → SameClause c d → ⊥) → IsFiled p salt t → (d : List LitOf) → Contains (clauses_of p.slots) d → SameClause c d → ⊥
+not_present p salt t marks c w e shows none f d h s =
     let k = clauses_of-slot p.slots d h in
     let v = f.each k.0 d k.2 in
-    let same : w ≡ v.0 = e ∙ weighs_same v.0 marks c d v.1 shows s in
+    let same : w ≡ v.0 = e ∙ weighs_same salt v.0 marks c d v.1 shows s in
     let held = v.2 in
     none held.steps k.0 d (ap (λ a. after t.nexts (beginning t.firsts a) held.steps) same ∙ held.there) k.2 s
 
@@ -269,8 +269,8 @@ root_fresh p s t l c = record {
   falsified = λ g. absurd (let f : false ≡ true = sym c ∙ g in cc);
 }
 
-pub filed_fresh : (p : PropagatorOf) (t : CopiesOf) → p.slots ≡ [] → t.count ≡ 0 → IsFiled p t
-filed_fresh p t s n = record {
+pub filed_fresh : (p : PropagatorOf) (salt : ℕ) (t : CopiesOf) → p.slots ≡ [] → t.count ≡ 0 → IsFiled p salt t
+filed_fresh p salt t s n = record {
   each = λ k c e. absurd (let f : None ≡ Some c = sym (ap (λ z. slot_at z k) s) ∙ e in cc);
   counted = omega (arith, n);
   placed = omega (arith, ap length s);

@@ -12,22 +12,22 @@ use Rattle.unit_propagation.specs.Marks.{is_marked, Shows}
 use Rattle.drup_check.specs.Marks.{HasPlaces, scattered, sum_from, weight, Weighs}
 use Rattle.drup_check.specs.Inside.{IsFree}
 
-pub sum_set : (k : ℕ) (marks : List Bool) (i : ℕ) → i < length marks → get_or marks i false ≡ false → sum_from k (set marks i true) ≡ sum_from k marks + scattered (k + i)
-sum_set k [] i h e = absurd (omega (arith, h))
-sum_set k (b ∷ bs) zero h e =
-    let p : scattered (k + zero) ≡ scattered k = ap scattered (omega arith) in
-    let q : cond b (scattered k) 0 ≡ 0 = ap (λ z. cond z (scattered k) 0) e in
+pub sum_set : (salt k : ℕ) (marks : List Bool) (i : ℕ) → i < length marks → get_or marks i false ≡ false → sum_from salt k (set marks i true) ≡ sum_from salt k marks + scattered salt (k + i)
+sum_set salt k [] i h e = absurd (omega (arith, h))
+sum_set salt k (b ∷ bs) zero h e =
+    let p : scattered salt (k + zero) ≡ scattered salt k = ap (scattered salt) (omega arith) in
+    let q : cond b (scattered salt k) 0 ≡ 0 = ap (λ z. cond z (scattered salt k) 0) e in
     omega (arith, p, q)
-sum_set k (b ∷ bs) (suc i) h e =
-    let p : scattered (k + suc i) ≡ scattered (k + 1 + i) = ap scattered (omega arith) in
-    let q : sum_from (k + 1) (set bs i true) ≡ sum_from (k + 1) bs + scattered (k + 1 + i) = sum_set (k + 1) bs i (omega (arith, h)) e in
+sum_set salt k (b ∷ bs) (suc i) h e =
+    let p : scattered salt (k + suc i) ≡ scattered salt (k + 1 + i) = ap (scattered salt) (omega arith) in
+    let q : sum_from salt (k + 1) (set bs i true) ≡ sum_from salt (k + 1) bs + scattered salt (k + 1 + i) = sum_set salt (k + 1) bs i (omega (arith, h)) e in
     omega (arith, p, q)
 
-pub sum_clear : (k : ℕ) (marks : List Bool) → ((i : ℕ) → get_or marks i false ≡ false) → sum_from k marks ≡ 0
-sum_clear k [] f = refl
-sum_clear k (b ∷ bs) f =
-    let q : cond b (scattered k) 0 ≡ 0 = ap (λ z. cond z (scattered k) 0) (f zero) in
-    let r : sum_from (k + 1) bs ≡ 0 = sum_clear (k + 1) bs (λ i. f (suc i)) in
+pub sum_clear : (salt k : ℕ) (marks : List Bool) → ((i : ℕ) → get_or marks i false ≡ false) → sum_from salt k marks ≡ 0
+sum_clear salt k [] f = refl
+sum_clear salt k (b ∷ bs) f =
+    let q : cond b (scattered salt k) 0 ≡ 0 = ap (λ z. cond z (scattered salt k) 0) (f zero) in
+    let r : sum_from salt (k + 1) bs ≡ 0 = sum_clear salt (k + 1) bs (λ i. f (suc i)) in
     omega (arith, q, r)
 
 -- a place is a literal's
@@ -41,8 +41,8 @@ clear_at marks s i =
       | inr f ↦ f
     ]
 
-pub weight_clear : (marks : List Bool) → Shows marks [] → 0 ≡ weight marks
-weight_clear marks s = let e : sum_from 0 marks ≡ 0 = sum_clear 0 marks (clear_at marks s) in sym (ap (λ n. n % 2 ^ 32) e)
+pub weight_clear : (salt : ℕ) (marks : List Bool) → Shows marks [] → 0 ≡ weight salt marks
+weight_clear salt marks s = let e : sum_from salt 0 marks ≡ 0 = sum_clear salt 0 marks (clear_at marks s) in sym (ap (λ n. n % 2 ^ 64) e)
 
 at_same : (a b : List Bool) (c : List LitOf) → Shows a c → Shows b c → (i : ℕ) → get_or a i false ≡ get_or b i false
 at_same a b c s r i =
@@ -55,22 +55,22 @@ at_same a b c s r i =
     ]
 
 -- tables that tell the same have the same sum, of whatever length
-sum_same : (k : ℕ) (a b : List Bool) → ((i : ℕ) → get_or a i false ≡ get_or b i false) → sum_from k a ≡ sum_from k b
-sum_same k [] b f = sym (sum_clear k b (λ i. sym (f i) ∙ get_or_past [] i false (omega arith)))
-sum_same k (x ∷ a) [] f = sum_clear k (x ∷ a) (λ i. f i ∙ get_or_past [] i false (omega arith))
-sum_same k (x ∷ a) (y ∷ b) f =
-    let p : cond x (scattered k) 0 ≡ cond y (scattered k) 0 = ap (λ z. cond z (scattered k) 0) (f zero) in
-    let q : sum_from (k + 1) a ≡ sum_from (k + 1) b = sum_same (k + 1) a b (λ i. f (suc i)) in
+sum_same : (salt k : ℕ) (a b : List Bool) → ((i : ℕ) → get_or a i false ≡ get_or b i false) → sum_from salt k a ≡ sum_from salt k b
+sum_same salt k [] b f = sym (sum_clear salt k b (λ i. sym (f i) ∙ get_or_past [] i false (omega arith)))
+sum_same salt k (x ∷ a) [] f = sum_clear salt k (x ∷ a) (λ i. f i ∙ get_or_past [] i false (omega arith))
+sum_same salt k (x ∷ a) (y ∷ b) f =
+    let p : cond x (scattered salt k) 0 ≡ cond y (scattered salt k) 0 = ap (λ z. cond z (scattered salt k) 0) (f zero) in
+    let q : sum_from salt (k + 1) a ≡ sum_from salt (k + 1) b = sum_same salt (k + 1) a b (λ i. f (suc i)) in
     omega (arith, p, q)
 
-pub weighs_of : (marks : List Bool) (c : List LitOf) → Shows marks c → Weighs c (weight marks)
-weighs_of marks c s = record { each = λ m r. ap (λ n. n % 2 ^ 32) (sum_same 0 m marks (λ i. at_same m marks c r s i)) }
+pub weighs_of : (salt : ℕ) (marks : List Bool) (c : List LitOf) → Shows marks c → Weighs salt c (weight salt marks)
+weighs_of salt marks c s = record { each = λ m r. ap (λ n. n % 2 ^ 64) (sum_same salt 0 m marks (λ i. at_same m marks c r s i)) }
 
 pub shows_same : (marks : List Bool) (c d : List LitOf) → Shows marks c → SameClause c d → Shows marks d
 shows_same marks c d s q = record { on = λ l h. s.on l (q.back l h); off = λ l h. q.forth l (s.off l h) }
 
-pub weighs_same : (h : ℕ) (marks : List Bool) (c d : List LitOf) → Weighs d h → Shows marks c → SameClause c d → weight marks ≡ h
-weighs_same h marks c d w s q = w.each marks (shows_same marks c d s q)
+pub weighs_same : (salt h : ℕ) (marks : List Bool) (c d : List LitOf) → Weighs salt d h → Shows marks c → SameClause c d → weight salt marks ≡ h
+weighs_same salt h marks c d w s q = w.each marks (shows_same marks c d s q)
 
 sign_room : (v n : ℕ) (a : Bool) → 2 * v + 1 < n → 2 * v + cond a 1 0 < n
 sign_room v n true h = omega arith
@@ -107,10 +107,10 @@ module _ (marks : List Bool) (cs : List LitOf) (i : ℕ) (l : LitOf) (inside : i
           ]
 
 -- one more place adds what it scatters
-pub weight_more : (marks : List Bool) (i w s : ℕ) → i < length marks → get_or marks i false ≡ false → w ≡ weight marks → s ≡ scattered i → (w + s) % 2 ^ 32 ≡ weight (set marks i true)
-weight_more marks i w s room free e f =
-    let g : sum_from 0 (set marks i true) ≡ sum_from 0 marks + scattered (0 + i) = sum_set 0 marks i room free in
-    let h : scattered (0 + i) ≡ scattered i = ap scattered (omega arith) in
+pub weight_more : (salt : ℕ) (marks : List Bool) (i w s : ℕ) → i < length marks → get_or marks i false ≡ false → w ≡ weight salt marks → s ≡ scattered salt i → (w + s) % 2 ^ 64 ≡ weight salt (set marks i true)
+weight_more salt marks i w s room free e f =
+    let g : sum_from salt 0 (set marks i true) ≡ sum_from salt 0 marks + scattered salt (0 + i) = sum_set salt 0 marks i room free in
+    let h : scattered salt (0 + i) ≡ scattered salt i = ap (scattered salt) (omega arith) in
     omega (arith, g, h, e, f)
 
 -- what is marked is in the clause, but not in what was done
@@ -149,19 +149,19 @@ left_none marks cs n e s = record {
 }
 
 -- one turn of the marking, at a place that was free
-pub marked_step : (marks marks' : List Bool) (cs : List LitOf) (n i w s w' : ℕ) (l : LitOf) → n < length cs → l ≡ get_or cs n l → i ≡ index_of l → i < length marks → get_or marks i false ≡ false
-    → Shows marks (take n cs) → w ≡ weight marks → s ≡ scattered i → marks' ≡ set marks i true → w' ≡ (w + s) % 2 ^ 32 → Shows marks' (take (n + 1) cs) × (w' ≡ weight marks')
-marked_step marks marks' cs n i w s w' l inside is at room free shows e f new sum = (
+pub marked_step : (salt : ℕ) (marks marks' : List Bool) (cs : List LitOf) (n i w s w' : ℕ) (l : LitOf) → n < length cs → l ≡ get_or cs n l → i ≡ index_of l → i < length marks → get_or marks i false ≡ false
+    → Shows marks (take n cs) → w ≡ weight salt marks → s ≡ scattered salt i → marks' ≡ set marks i true → w' ≡ (w + s) % 2 ^ 64 → Shows marks' (take (n + 1) cs) × (w' ≡ weight salt marks')
+marked_step salt marks marks' cs n i w s w' l inside is at room free shows e f new sum = (
   subst (λ z. Shows z (take (n + 1) cs)) (ap (λ k. set marks k true) (sym at) ∙ sym new) (shows_more marks cs n l inside is (subst (λ k. k < length marks) at room) shows),
-  sum ∙ weight_more marks i w s room free e f ∙ ap weight (sym new),
+  sum ∙ weight_more salt marks i w s room free e f ∙ ap (weight salt) (sym new),
 )
 
 -- a turn at a place that was marked
-pub again_step : (marks marks' : List Bool) (cs : List LitOf) (n i w w' : ℕ) (l : LitOf) → n < length cs → l ≡ get_or cs n l → i ≡ index_of l → get_or marks i false ≡ true
-    → Shows marks (take n cs) → w ≡ weight marks → marks' ≡ marks → w' ≡ w → Shows marks' (take (n + 1) cs) × (w' ≡ weight marks')
-again_step marks marks' cs n i w w' l inside is at on shows e new sum = (
+pub again_step : (salt : ℕ) (marks marks' : List Bool) (cs : List LitOf) (n i w w' : ℕ) (l : LitOf) → n < length cs → l ≡ get_or cs n l → i ≡ index_of l → get_or marks i false ≡ true
+    → Shows marks (take n cs) → w ≡ weight salt marks → marks' ≡ marks → w' ≡ w → Shows marks' (take (n + 1) cs) × (w' ≡ weight salt marks')
+again_step salt marks marks' cs n i w w' l inside is at on shows e new sum = (
   subst (λ z. Shows z (take (n + 1) cs)) (sym new) (shows_again marks cs n l inside is (ap (λ k. get_or marks k false) (sym at) ∙ on) shows),
-  sum ∙ e ∙ ap weight (sym new),
+  sum ∙ e ∙ ap (weight salt) (sym new),
 )
 
 pub left_step : (marks : List Bool) (cs : List LitOf) (n i : ℕ) (l : LitOf) → n < length cs → l ≡ get_or cs n l → i ≡ index_of l → i < length marks → IsLeft marks cs (take n cs) → IsLeft (set marks i false) cs (take (n + 1) cs)

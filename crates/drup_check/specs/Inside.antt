@@ -18,9 +18,9 @@ pub record IsFree (F : List (List LitOf)) (marks : List Bool) : Type 0 where
   pub places : (c : List LitOf) → Contains F c → HasPlaces marks c
   pub clear : Shows marks []
 
--- the chains have each clause that is present, and there is a place for each number
-pub record IsFiled (p : PropagatorOf) (t : CopiesOf) : Type 0 where
-  pub each : (k : ℕ) (c : List LitOf) → slot_at p.slots k ≡ Some c → (h : ℕ) × Weighs c h × Holds t h k
+-- the chains have each clause that is present, by the weights of this salt, and there is a place for each number
+pub record IsFiled (p : PropagatorOf) (salt : ℕ) (t : CopiesOf) : Type 0 where
+  pub each : (k : ℕ) (c : List LitOf) → slot_at p.slots k ≡ Some c → (h : ℕ) × Weighs salt c h × Holds t h k
   pub counted : t.count ≤ length p.slots
   pub placed : length p.slots ≤ length t.nexts
 

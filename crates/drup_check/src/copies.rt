@@ -9,6 +9,9 @@ use std::marker::Model;
 // A chain has this many clauses on average before there are twice as many chains.
 const FULL: usize = 4;
 
+// Searches pass this many times what filing all clauses takes before that is done again.
+const SLOW: usize = 8;
+
 // A clause goes before the clauses of its chain that have lower numbers, and stays there until a search meets it after it is deleted.
 #[derive(Drop)]
 pub(crate) struct Copies {
@@ -18,6 +21,8 @@ pub(crate) struct Copies {
     nexts: Vec<u32>,
     // One more than the highest number on a chain.
     count: usize,
+    // The literals of the clauses that searches passed, which were other sets than theirs.
+    passed: usize,
 }
 
 impl Model for Copies {
@@ -43,6 +48,7 @@ impl Copies {
             firsts,
             nexts,
             count: 0,
+            passed: 0,
         })
     }
 
@@ -59,8 +65,21 @@ impl Copies {
         self.nexts.len() / FULL >= self.firsts.len()
     }
 
+    // Whether searches passed far more than filing all clauses again takes, which have this many literals.
+    pub fn is_slow(&self, literals: usize) -> bool {
+        let places = self.nexts.len().saturating_add(self.firsts.len());
+        self.passed / SLOW > places.saturating_add(literals)
+    }
+
+    // A search passes a clause of this many literals.
+    pub fn pass(&mut self, literals: usize)
+        ensures { self.new ≡ self.old }
+    {
+        self.passed = self.passed.saturating_add(literals);
+    }
+
     // One more than the number of the first clause that has the weight, or 0.
-    pub fn first(&self, weight: u32) -> u32
+    pub fn first(&self, weight: u64) -> u32
         ensures first { result ≡ beginning self.now.firsts weight }
         ensures falls { (i : ℕ) → slice_index_or self.now.nexts i 0 ≤ i }
     {
@@ -98,10 +117,11 @@ impl Copies {
         }
         self.nexts.truncate(clauses);
         self.count = 0;
+        self.passed = 0;
     }
 
     // Enters a clause whose number is higher than those of all that were entered.
-    pub fn enter(&mut self, weight: u32, k: u32)
+    pub fn enter(&mut self, weight: u64, k: u32)
         requires count { self.old.count ≤ k }
         requires place { k < length self.old.nexts }
         requires limit { k < u32.MAX }
@@ -117,7 +137,7 @@ impl Copies {
     }
 
     // Takes off its chain the clause to which this link leads: that after the clause `before`, or the first that has the weight.
-    pub fn unlink(&mut self, weight: u32, before: Option<u32>, k: u32)
+    pub fn unlink(&mut self, weight: u64, before: Option<u32>, k: u32)
         requires { link_at self.old weight before ≡ k + 1 }
         ensures next { link_at self.new weight before ≡ slice_index_or self.old.nexts k 0 }
         ensures keeps { (h j : ℕ) → j ≢ k → Holds self.old h j → Holds self.new h j }

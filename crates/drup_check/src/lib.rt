@@ -16,8 +16,8 @@ use admission::{is_reason, reaches_conflict};
 use clause_source::{ClauseSource, Given};
 use cnf_form::{Lit, MAX_VARS};
 use copies::Copies;
-use lookup::{file_all, file_present, find_clause};
-use marks::{reach_both, weigh};
+use lookup::{file_all, file_present, find_clause, literals};
+use marks::{SCATTER, reach_both, weigh};
 use std::alloc::{AllocError, Global};
 use std::marker::Model;
 use unit_propagation::Propagator;
@@ -35,20 +35,14 @@ const CHAINS: usize = 64;
 // The memory of at least this many literals of deleted clauses is kept.
 const FEW: usize = 65_536;
 
-// How many literals the clause with a number has: 0 where it isn't present.
-fn literals(core: &Propagator, k: u32) -> usize {
-    if k as usize >= core.len() {
-        return 0;
-    }
-    core.clause(k).map_or(0, |clause| clause.len())
-}
-
 /// A checker of DRUP proofs, which holds the clauses that are present.
 #[derive(Drop)]
 pub struct Checker {
     alloc: Global,
     core: Propagator,
     copies: Copies,
+    // By which the clauses are filed.
+    salt: u64,
     // They reach as far as the highest variable of a clause that was kept.
     marks: Vec<bool>,
     others: Vec<bool>,
@@ -71,7 +65,7 @@ impl Model for Checker {
     ghost view = { λ k. record { vars = k.core.vars; clauses = clauses_of k.core.slots; refuted = k.refuted; out_of_memory = k.out_of_memory } };
 
     ghost invariant = { λ k. IsRoot k.core × IsFree (clauses_of k.core.slots) k.marks.items × IsFree (clauses_of k.core.slots) k.others.items
-        × IsFiled k.core k.copies };
+        × IsFiled k.core k.salt k.copies };
 }
 
 impl Checker {
@@ -85,6 +79,7 @@ impl Checker {
             alloc,
             core,
             copies: Copies::new(alloc, CHAINS, 0)?,
+            salt: SCATTER,
             marks: Vec::new(alloc),
             others: Vec::new(alloc),
             negated: Vec::new(alloc),
@@ -115,7 +110,7 @@ impl Checker {
             return Ok(());
         }
         let chains = self.copies.chains().saturating_mul(2);
-        self.copies = file_all(self.alloc, &self.core, chains, &mut self.marks)?;
+        self.copies = file_all(self.alloc, &self.core, chains, &mut self.marks, self.salt)?;
         Ok(())
     }
 
@@ -127,7 +122,7 @@ impl Checker {
     {
         self.make_room()?;
         reach_both(&mut self.marks, &mut self.others, clause)?;
-        let weight = weigh(clause, &mut self.marks);
+        let weight = weigh(clause, &mut self.marks, self.salt);
         self.copies.make_place()?;
         let k = self.core.len() as u32;
         self.core.add_clause(clause)?;
@@ -209,18 +204,19 @@ impl Checker {
         if self.core.conflict() {
             return;
         }
+        if is_reason(&self.core, clause) {
+            return;
+        }
         let Some(found) = find_clause(
             &self.core,
             &mut self.copies,
             clause,
             &mut self.marks,
             &mut self.others,
+            self.salt,
         ) else {
             return;
         };
-        if is_reason(&self.core, clause) {
-            return;
-        }
         let size = literals(&self.core, found);
         self.core.remove_clause(found);
         self.live = self.live.saturating_sub(size);
@@ -245,7 +241,19 @@ impl Checker {
             return;
         }
         self.copies.clear(self.core.len());
-        file_present(&self.core, &mut self.copies, &mut self.marks);
+        file_present(&self.core, &mut self.copies, &mut self.marks, self.salt);
+    }
+
+    // Files the clauses by another salt where searches passed far more than that takes: others then share a chain.
+    fn file_again(&mut self)
+        ensures { self.new ≡ self.old }
+    {
+        if !self.copies.is_slow(self.live) {
+            return;
+        }
+        self.salt = self.salt.wrapping_mul(SCATTER);
+        self.copies.clear(self.core.len());
+        file_present(&self.core, &mut self.copies, &mut self.marks, self.salt);
     }
 
     /// Deletes one copy of a clause over the formula's variables. Does nothing where there is none, where unit propagation
@@ -257,6 +265,7 @@ impl Checker {
     {
         self.drop_copy(clause);
         self.collect();
+        self.file_again();
     }
 
     /// Whether an empty clause was admitted.

@@ -6,6 +6,7 @@ ghost use Rattle.unit_propagation.specs.Marks.{Shows};
 ghost use Rattle.unit_propagation.specs.Propagator.{clauses_of, slot_at};
 ghost use Rattle.drup_check.specs.Inside.{IsFree, IsFiled, Keeps};
 ghost use Rattle.drup_check.specs.Copies.{after, beginning};
+ghost use Rattle.drup_check.specs.Marks.{Weighs};
 
 use crate::copies::Copies;
 use crate::marks::{has_places, is_same, mark_all, unmark_all, weigh};
@@ -13,9 +14,26 @@ use cnf_form::Lit;
 use std::alloc::{AllocError, Global};
 use unit_propagation::Propagator;
 
+// How many literals the clause with a number has: 0 where it isn't present.
+pub(crate) fn literals(core: &Propagator, k: u32) -> usize {
+    if k as usize >= core.len() {
+        return 0;
+    }
+    core.clause(k).map_or(0, |clause| clause.len())
+}
+
 // Whether the clause with a number is the same set.
-fn is_copy(core: &Propagator, k: u32, clause: &[Lit], marks: &[bool], other: &mut [bool]) -> bool
+fn is_copy(
+    core: &Propagator,
+    k: u32,
+    clause: &[Lit],
+    weight: u64,
+    marks: &[bool],
+    other: &mut [bool],
+    salt: u64,
+) -> bool
     requires shows { Shows marks.now clause.now }
+    requires weighs { Weighs salt clause.now weight }
     requires free { IsFree (clauses_of core.now.slots) other.old }
     ensures free { IsFree (clauses_of core.now.slots) other.new }
     ensures yes { IsTrue result → (d : List LitOf) × (slot_at core.now.slots k ≡ Some d) × SameClause clause.now d }
@@ -25,7 +43,7 @@ fn is_copy(core: &Propagator, k: u32, clause: &[Lit], marks: &[bool], other: &mu
         return false;
     }
     match core.clause(k) {
-        Some(d) => is_same(clause, marks, d, other),
+        Some(d) => is_same(clause, marks, weight, d, other, salt),
         None => false,
     }
 }
@@ -45,12 +63,14 @@ fn is_gone(core: &Propagator, k: u32) -> bool
 fn find(
     core: &Propagator,
     copies: &mut Copies,
-    weight: u32,
+    weight: u64,
     clause: &[Lit],
     marks: &[bool],
     other: &mut [bool],
+    salt: u64,
 ) -> Option<u32>
     requires shows { Shows marks.now clause.now }
+    requires weighs { Weighs salt clause.now weight }
     requires free { IsFree (clauses_of core.now.slots) other.old }
     ensures free { IsFree (clauses_of core.now.slots) other.new }
     ensures keeps { Keeps core.now.slots copies.old copies.new }
@@ -67,9 +87,10 @@ fn find(
             copies.unlink(weight, before, k);
             continue;
         }
-        if is_copy(core, k, clause, marks, other) {
+        if is_copy(core, k, clause, weight, marks, other, salt) {
             return Some(k);
         }
+        copies.pass(literals(core, k));
         before = Some(k);
     }
     None
@@ -82,38 +103,39 @@ pub(crate) fn find_clause(
     clause: &[Lit],
     marks: &mut [bool],
     others: &mut [bool],
+    salt: u64,
 ) -> Option<u32>
     requires free { IsFree (clauses_of core.now.slots) marks.old }
     requires others_free { IsFree (clauses_of core.now.slots) others.old }
     ensures free { IsFree (clauses_of core.now.slots) marks.new }
     ensures others_free { IsFree (clauses_of core.now.slots) others.new }
-    ensures filed { IsFiled core.now copies.old → IsFiled core.now copies.new }
+    ensures filed { IsFiled core.now salt copies.old → IsFiled core.now salt copies.new }
     ensures found { IfSome result (λ k. (k < length core.now.slots)
         × ((d : List LitOf) × (slot_at core.now.slots k ≡ Some d) × SameClause clause.now d)) }
-    ensures none { IfNone result (IsFiled core.now copies.old
+    ensures none { IfNone result (IsFiled core.now salt copies.old
         → (d : List LitOf) → Contains (clauses_of core.now.slots) d → SameClause clause.now d → ⊥) }
 {
     // Each present clause has places.
     if !has_places(clause, marks) {
         return None;
     }
-    let weight = mark_all(clause, marks);
-    let found = find(core, copies, weight, clause, marks, others);
+    let weight = mark_all(clause, marks, salt);
+    let found = find(core, copies, weight, clause, marks, others, salt);
     unmark_all(clause, marks);
     found
 }
 
 // Files the clauses that are present in chains that are empty.
-pub(crate) fn file_present(core: &Propagator, copies: &mut Copies, marks: &mut [bool])
+pub(crate) fn file_present(core: &Propagator, copies: &mut Copies, marks: &mut [bool], salt: u64)
     requires free { IsFree (clauses_of core.now.slots) marks.old }
     requires empty { copies.old.count ≡ 0 }
     requires places { length copies.old.nexts ≡ length core.now.slots }
     ensures free { IsFree (clauses_of core.now.slots) marks.new }
-    ensures filed { IsFiled core.now copies.new }
+    ensures filed { IsFiled core.now salt copies.new }
 {
     for k in 0..core.len() {
         if let Some(clause) = core.clause(k as u32) {
-            let weight = weigh(clause, marks);
+            let weight = weigh(clause, marks, salt);
             copies.enter(weight, k as u32);
         }
     }
@@ -125,13 +147,14 @@ pub(crate) fn file_all(
     core: &Propagator,
     chains: usize,
     marks: &mut [bool],
+    salt: u64,
 ) -> Result<Copies, AllocError>
     requires chains { 0 < chains }
     requires free { IsFree (clauses_of core.now.slots) marks.old }
     ensures free { IsFree (clauses_of core.now.slots) marks.new }
-    ensures filed { IfOk result (λ t. IsFiled core.now t) }
+    ensures filed { IfOk result (λ t. IsFiled core.now salt t) }
 {
     let mut copies = Copies::new(alloc, chains, core.len())?;
-    file_present(core, &mut copies, marks);
+    file_present(core, &mut copies, marks, salt);
     Ok(copies)
 }

@@ -8,16 +8,16 @@ ghost use Rattle.drup_check.specs.Marks.{HasPlaces, Weighs, scattered, weight};
 use cnf_form::Lit;
 use std::alloc::AllocError;
 
-// 2^64 divided by the golden ratio.
-const SCATTER: u64 = 0x9e37_79b9_7f4a_7c15;
+// 2^64 divided by the golden ratio: the first salt, and what each salt is multiplied by to get the next.
+pub(crate) const SCATTER: u64 = 0x9e37_79b9_7f4a_7c15;
 
-// What a literal adds to the weight of a set, by its place.
+// What a literal adds to the weight of a set, by its place: never 0, so a smaller set of the same literals weighs less.
 #[inline(always)]
-fn scattered(place: usize) -> u32
-    ensures { result ≡ scattered place }
+fn scattered(place: usize, salt: u64) -> u64
+    ensures { result ≡ scattered salt place }
 {
-    let high = (place as u64).wrapping_mul(SCATTER) / (1 << 32);
-    (high.wrapping_mul(high) / (1 << 16) % (1 << 32)) as u32
+    let high = (place as u64).wrapping_mul(salt) / (1 << 32);
+    high.wrapping_mul(high) / (1 << 16) % (1 << 32) + 1
 }
 
 // Whether a table has places for the literals of a clause.
@@ -73,18 +73,18 @@ pub(crate) fn reach_both(
 }
 
 // Marks the literals of a clause. Returns what their set weighs.
-pub(crate) fn mark_all(clause: &[Lit], marks: &mut [bool]) -> u32
+pub(crate) fn mark_all(clause: &[Lit], marks: &mut [bool], salt: u64) -> u64
     requires places { HasPlaces marks.old clause.now }
     requires clear { Shows marks.old [] }
     ensures shows { Shows marks.new clause.now }
-    ensures weight { result ≡ weight marks.new }
+    ensures weight { result ≡ weight salt marks.new }
 {
-    let mut sum: u32 = 0;
+    let mut sum: u64 = 0;
     for l in clause {
         let place = l.index();
         if !marks[place] {
             marks[place] = true;
-            sum = sum.wrapping_add(scattered(place));
+            sum = sum.wrapping_add(scattered(place, salt));
         }
     }
     sum
@@ -102,13 +102,13 @@ pub(crate) fn unmark_all(clause: &[Lit], marks: &mut [bool])
 }
 
 // What the set of a clause's literals weighs, by a table that is clear.
-pub(crate) fn weigh(clause: &[Lit], marks: &mut [bool]) -> u32
+pub(crate) fn weigh(clause: &[Lit], marks: &mut [bool], salt: u64) -> u64
     requires places { HasPlaces marks.old clause.now }
     requires clear { Shows marks.old [] }
     ensures clear { Shows marks.new [] }
-    ensures weighs { Weighs clause.now result }
+    ensures weighs { Weighs salt clause.now result }
 {
-    let weight = mark_all(clause, marks);
+    let weight = mark_all(clause, marks, salt);
     unmark_all(clause, marks);
     weight
 }
@@ -135,10 +135,19 @@ fn is_within(clause: &[Lit], marks: &[bool]) -> bool
     true
 }
 
-// Whether two clauses are the same set, where the first is marked in a table of its own.
-pub(crate) fn is_same(a: &[Lit], a_marks: &[bool], b: &[Lit], b_marks: &mut [bool]) -> bool
+// Whether two clauses are the same set, where the first is marked in a table of its own. A subset that weighs as much is the whole of
+// it, so the first is gone through only where it is the same as the second.
+pub(crate) fn is_same(
+    a: &[Lit],
+    a_marks: &[bool],
+    a_weight: u64,
+    b: &[Lit],
+    b_marks: &mut [bool],
+    salt: u64,
+) -> bool
     requires places { HasPlaces b_marks.old b.now }
     requires shows { Shows a_marks.now a.now }
+    requires weighs { Weighs salt a.now a_weight }
     requires clear { Shows b_marks.old [] }
     ensures same { IsTrue result ↔ SameClause a.now b.now }
     ensures clear { Shows b_marks.new [] }
@@ -146,7 +155,11 @@ pub(crate) fn is_same(a: &[Lit], a_marks: &[bool], b: &[Lit], b_marks: &mut [boo
     if !is_within(b, a_marks) {
         return false;
     }
-    mark_all(b, b_marks);
+    let b_weight = mark_all(b, b_marks, salt);
+    if b_weight != a_weight {
+        unmark_all(b, b_marks);
+        return false;
+    }
     let same = is_within(a, b_marks);
     unmark_all(b, b_marks);
     same

@@ -26,8 +26,7 @@ returns-in_default-clause-deleted c =
 
 pub returns-then-is_reason-clause-deleted : goal.returns-then-is_reason-clause-deleted
 returns-then-is_reason-clause-deleted c =
-    let p = c.self.inside.core in
-    subst (λ (k : CheckerOf). Deletes k.clauses c.args.clause.now (clauses_of p.slots)) c.self.view_is (inr (refl, inr (inr (c.is_reason.ensures.0 c.if-is_reason.true))))
+    subst (λ (k : CheckerOf). Deletes k.clauses c.args.clause.now k.clauses) c.self.view_is (inr (refl, inr (inr (c.is_reason.ensures.0 c.if-is_reason.true))))
 
 pub invariant_of-self-2 : goal.invariant_of-self-2
 invariant_of-self-2 c =
@@ -50,7 +49,7 @@ invariant_of-self-2 c =
       root_without p c.in-Some.found c.args.clause.now d.0 d.1 d.2 i.0 e kept,
       freed_back _ marks.items c.find_clause.new.marks marks.len a b (free_less (clauses_of p.slots) _ _ less s.free),
       freed_back _ others.items c.find_clause.new.others others.len a' b' (free_less (clauses_of p.slots) _ _ less s.others_free),
-      filed_without p c.in-Some.found c.args.clause.now d.0 d.1 d.2 _ (s.filed i.3),
+      filed_without p c.in-Some.found c.args.clause.now d.0 d.1 d.2 c.self.inside.salt _ (s.filed i.3),
     )
 
 pub returns-clause-deleted : goal.returns-clause-deleted

@@ -14,5 +14,5 @@ invariant_of-result c =
       root_fresh _ slots (ap (λ (z : PropagatorOf). z.trail) e) (ap (λ (z : PropagatorOf). z.limits) e) (ap (λ (z : PropagatorOf). z.conflict) e),
       subst (λ s. IsFree (clauses_of s) c.new-3.result.items) (sym slots) (subst (IsFree []) (sym marks) free_none),
       subst (λ s. IsFree (clauses_of s) c.new-4.result.items) (sym slots) (subst (IsFree []) (sym others) free_none),
-      filed_fresh _ c.in_ok-new.field-0 slots c.in_ok-new.ensures.count,
+      filed_fresh _ _ c.in_ok-new.field-0 slots c.in_ok-new.ensures.count,
     )

@@ -57,7 +57,7 @@ invariant_of-self-in_err-make_place c =
     let b : length c.weigh-weight.new.marks ≡ length marks.items = search rules in
     let freed = free_back F marks.items c.weigh-weight.new.marks marks.len a b free w.clear in
     let p = c.in_err-make_place.ensures in
-    (i.0, freed, others_free, subst (IsFiled core) (sym p.err) i.3)
+    (i.0, freed, others_free, subst (IsFiled core c.self.inside.salt) (sym p.err) i.3)
 
 pub invariant_of-self-in_err-add_clause : goal.invariant_of-self-in_err-add_clause
 invariant_of-self-in_err-add_clause c =
@@ -80,7 +80,7 @@ invariant_of-self-in_err-add_clause c =
     let t = c.self.inside.copies in
     let t' = c.make_place.new.self in
     let place : length t'.nexts ≡ length t.nexts + 1 = ap (λ (z : CopiesOf). length z.nexts) p.ok ∙ length_push t.nexts 0 in
-    checker_out_of_memory core c.add_clause.new.self t t' _ _ q.err (holds_push t t' p.ok) (ap (λ (z : CopiesOf). z.count) p.ok) place i.0 freed others_free i.3
+    checker_out_of_memory core c.add_clause.new.self c.self.inside.salt t t' _ _ q.err (holds_push t t' p.ok) (ap (λ (z : CopiesOf). z.count) p.ok) place i.0 freed others_free i.3
 
 pub returns-in_err-add_clause-clause-err : goal.returns-in_err-add_clause-clause-err
 returns-in_err-add_clause-clause-err c =
@@ -115,7 +115,7 @@ invariant_of-self-2 c =
     let rooms = c.in_ok-reach_both.ensures.places in
     let more : length t'.nexts ≡ length t.nexts + 1 = ap (λ (z : CopiesOf). length z.nexts) p.ok ∙ length_push t.nexts 0 in
     let place : c.len-k.result < length c.enter.new.self.nexts = omega (arith, e.places, more, filed.placed, n.count) in
-    checker_added core c.add_clause.new.self c.args.clause.now t c.enter.new.self _ _ c.weigh-weight.result c.len-k.result q.ok (λ h j s. e.keeps h j (holds_push t t' p.ok h j s)) n.count e.count place
+    checker_added core c.add_clause.new.self c.args.clause.now c.self.inside.salt t c.enter.new.self _ _ c.weigh-weight.result c.len-k.result q.ok (λ h j s. e.keeps h j (holds_push t t' p.ok h j s)) n.count e.count place
     w.weighs e.holds i.0 (places_back marks.items c.weigh-weight.new.marks marks.len c.args.clause.now a b rooms.0) rooms.1 freed others_free filed
 
 pub returns-clause-ok : goal.returns-clause-ok

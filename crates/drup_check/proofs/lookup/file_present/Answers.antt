@@ -27,13 +27,13 @@ loop-k-preserved c =
             free = free_same (clauses_of p.slots) c.loop-k.marks w.weigh-weight.new.marks (omega (arith, size)) v.free m.clear;
             counted = omega (arith, e.count);
             placed = e.places ∙ v.placed;
-            filed = filed_more p _ _ k w.weigh-weight.result w.in-Some.clause.now w.in-Some.ensures.there m.weighs e.holds e.keeps v.filed;
+            filed = filed_more p c.args.salt _ _ k w.weigh-weight.result w.in-Some.clause.now w.in-Some.ensures.there m.weighs e.holds e.keeps v.filed;
           })
       | in_default w ↦
           rw (w.marks-is, w.copies-is) (record {
             free = v.free;
             counted = omega (arith, v.counted);
             placed = v.placed;
-            filed = filed_none p _ k w.in_default.ensures.gone v.filed;
+            filed = filed_none p c.args.salt _ k w.in_default.ensures.gone v.filed;
           })
     ]

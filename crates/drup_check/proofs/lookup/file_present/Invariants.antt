@@ -12,5 +12,5 @@ invariant-loop-k l = record {
   free : IsFree (clauses_of l.core.slots) l.marks;
   counted : l.copies.count ≤ l.k;
   placed : length l.copies.nexts ≡ length l.core.slots;
-  filed : (j : ℕ) (d : List LitOf) → j < l.k → slot_at l.core.slots j ≡ Some d → (h : ℕ) × Weighs d h × Holds l.copies h j;
+  filed : (j : ℕ) (d : List LitOf) → j < l.k → slot_at l.core.slots j ≡ Some d → (h : ℕ) × Weighs l.salt d h × Holds l.copies h j;
 }

@@ -36,7 +36,7 @@ pub loop-at-preserved : goal.loop-at-preserved
 loop-at-preserved c =
     let i = c.loop-at.invariant in
     let nexts = c.loop-at.copies.nexts in
-    record {
+    rw c.pass.ensures (record {
       free = c.is_copy.ensures.free;
       link = sym c.next-at.ensures.next;
       falls = i.falls;
@@ -45,7 +45,7 @@ loop-at-preserved c =
           let r = i.rest n k d e s q in
           let w = step nexts c.loop-at.at k r.0 r.1 (λ f. both_ways _ c.if-is_copy.false (c.is_copy.ensures.no d (subst (λ z. slot_at c.args.core.now.slots z ≡ Some d) (sym f) s) q)) in
           (w.0, ap (λ a. after nexts a w.0) c.next-at.ensures.next ∙ w.1);
-    }
+    })
 
 pub returns-clause-none : goal.returns-clause-none
 returns-clause-none c = λ n k d e s q.

@@ -6,5 +6,5 @@ use Rattle.drup_check.proofs.marks.mark_all.Given as goal
 abbrev pub invariant-loop-l : goal.invariant-loop-l
 invariant-loop-l l = record {
   shows : Shows l.marks (take l.l-index l.clause);
-  sum : l.sum ≡ weight l.marks;
+  sum : l.sum ≡ weight l.salt l.marks;
 }

@@ -6,4 +6,4 @@ use Rattle.drup_check.proofs.marks.weigh.Goals as goal
 pub returns-clause-weighs : goal.returns-clause-weighs
 returns-clause-weighs c =
     let m = c.mark_all-weight.ensures in
-    subst (Weighs c.args.clause.now) (sym m.weight) (weighs_of c.mark_all-weight.new.marks c.args.clause.now m.shows)
+    subst (Weighs c.args.salt c.args.clause.now) (sym m.weight) (weighs_of c.args.salt c.mark_all-weight.new.marks c.args.clause.now m.shows)
