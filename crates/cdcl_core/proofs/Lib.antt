@@ -7,4 +7,5 @@ pub mod Solutions
 mod Reductions
 mod Orders
 mod Thawing
+mod Resolvents
 mod Steps

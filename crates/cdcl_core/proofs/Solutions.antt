@@ -5,7 +5,7 @@ use Rattle.std.proofs.lemmas.List.Elements.{All-nil, All-push, Contains-append_l
 use Rattle.cnf_form.specs.Cnf.{LitOf, FormulaOf, Satisfies, IsAdmitted, negated_units, Deletes, Line, Addition, Deletion, Drup}
 use Rattle.cnf_form.proofs.Removal.{Drup-refutes, Closure-monotone}
 use Rattle.cdcl_core.specs.Lines.{LogLine, Adds, Notes, Drops, plain, IsProperLine, HeldOf, held_first, held_after, AreHinted, IsHintedLine, LineFollows}
-use Rattle.cdcl_core.specs.Logged.{IsNew, IsContingent, IsProper, Logged, none, added, deleted, additions, deletions}
+use Rattle.cdcl_core.specs.Logged.{IsNew, IsContingent, Logged, none, added, deleted, additions, deletions}
 use Rattle.cdcl_core.specs.Present.{Reorders}
 use Rattle.cdcl_core.proofs.Orders.{reorders_same, reorders_add, reorders_forth, reorders_back}
 use Rattle.cdcl_core.specs.Searching.{IsHeld}

@@ -14,8 +14,9 @@ use Rattle.hint_chain.specs.Chains.{Hints}
 use Rattle.hint_chain.proofs.Naming.{named_delete, named_delete_frozen}
 use Rattle.cdcl_core.specs.Lines.{LogLine, Adds, Notes, Drops, AreFew, HeldOf, held_first, held_after, IsHintedAs, IsHintedLine}
 use Rattle.cdcl_core.specs.Logged.{IsNew, IsProper}
-use Rattle.cdcl_core.specs.Searching.{IsSolver, IsAtRest, IsOf, StandFirst, IsHeld, HasLogged, Leads, Moves, Reduces, Stops, EndsBy, StepFits, IsAddable, IsNamedBy, present_of}
+use Rattle.cdcl_core.specs.Searching.{IsSolver, IsAtRest, IsOf, IsHeld, HasLogged, Leads, Moves, Reduces, Grows, Stops, EndsBy, Ended, AreRight, StepFits, IsAddable, IsNamedBy, present_of}
 use Rattle.cdcl_core.specs.Solving.{IsFound, IsRefuted, IsStopped, IsBroken, SolvedFits, valued}
+use Rattle.cdcl_core.specs.declared.solver.Solved.TheVariants.{Unsat}
 use Rattle.cdcl_core.specs.declared.solver.Step.{Step}
 use Rattle.cdcl_core.specs.declared.solver.Step.TheVariants.{Answered, Learnt, Thawed}
 use Rattle.cdcl_core.specs.declared.solver.Solver.{Solver}
@@ -25,7 +26,7 @@ use Rattle.cdcl_core.specs.declared.stop.Stop.{Stop}
 use Rattle.cdcl_core.specs.declared.stop.Stop.TheVariants.{OutOfMemory, Failed}
 use Rattle.cdcl_core.proofs.Justified.{clauses_push}
 use Rattle.cdcl_core.proofs.Orders.{slot_parts, reorders_delete, orders_both, orders_thaw, orders_freeze, orders_same}
-use Rattle.cdcl_core.proofs.Reductions.{stand_push, stand_set, stand_present, stand_all, clauses_map}
+use Rattle.cdcl_core.proofs.Reductions.{clauses_map}
 use Rattle.cdcl_core.proofs.Solutions.{held_none, held_added, held_noted, held_deleted, held_stops, held_finds, held_refutes, breaks_added, breaks_noted, breaks_deleted, breaks_empty}
 use Rattle.std.proofs.lemmas.List.{append_assoc}
 use Rattle.std.proofs.lemmas.List.Elements.{All-nil, All-cons, Contains-append_cases}
@@ -37,9 +38,9 @@ named_as old new h s z i w t =
     (subst (λ (x : IdsOf). IsNamed h.live new.core.slots new.frozen.slots x) (sym i) (subst (λ x. IsNamed h.live x new.frozen.slots old.ids) (sym s) (subst (λ x. IsNamed h.live old.core.slots x old.ids) (sym z) k.0)), ap (λ (x : IdsOf). x.last) i ∙ k.1)
 
 -- clauses are the same, in the same order
-pub moves_same : (old new : Solver) → new.core.vars ≡ old.core.vars → new.core.slots ≡ old.core.slots → new.given ≡ old.given → new.frozen ≡ old.frozen → new.conflicts ≡ old.conflicts → new.deletions ≡ old.deletions → new.ids ≡ old.ids → Moves old new
-moves_same old new v s g z n d i = record {
-  of = λ f w. record { vars = v ∙ w.vars; given = g ∙ w.given; originals = subst (StandFirst f.clauses) (sym s) w.originals };
+pub moves_same : (old new : Solver) → new.core.vars ≡ old.core.vars → new.core.slots ≡ old.core.slots → new.frozen ≡ old.frozen → new.conflicts ≡ old.conflicts → new.deletions ≡ old.deletions → new.ids ≡ old.ids → Moves old new
+moves_same old new v s z n d i = record {
+  vars = v;
   orders = subst (SameOrders (present_of old)) (sym (ap (λ x. x ++ clauses_of new.frozen.slots) (ap clauses_of s) ∙ ap (λ (x : FrozenOf). clauses_of old.core.slots ++ clauses_of x.slots) z)) (orders_same (present_of old));
   conflicts = n;
   deletions = d;
@@ -49,7 +50,7 @@ moves_same old new v s g z n d i = record {
 
 pub moves_both : (a b c : Solver) → Moves a b → Moves b c → Moves a c
 moves_both a b c v w = record {
-  of = λ f h. w.of f (v.of f h);
+  vars = w.vars ∙ v.vars;
   orders = orders_both v.orders w.orders;
   conflicts = w.conflicts ∙ v.conflicts;
   deletions = w.deletions ∙ v.deletions;
@@ -58,13 +59,13 @@ moves_both a b c v w = record {
 }
 
 -- a frozen clause is watched again
-pub moves_thaw : (old new : Solver) (k : ℕ) (c : List LitOf) → slot_at old.frozen.slots k ≡ Some c → new.core.vars ≡ old.core.vars → new.core.slots ≡ old.core.slots ++ Some c ∷ [] → new.given ≡ old.given
+pub moves_thaw : (old new : Solver) (k : ℕ) (c : List LitOf) → slot_at old.frozen.slots k ≡ Some c → new.core.vars ≡ old.core.vars → new.core.slots ≡ old.core.slots ++ Some c ∷ []
     → new.frozen.slots ≡ set old.frozen.slots k None → new.conflicts ≡ old.conflicts → new.deletions ≡ old.deletions → new.ids.wanted ≡ old.ids.wanted → ((h : HeldOf) → IsNamedBy h old → IsNamedBy h new) → Moves old new
-moves_thaw old new k c at v s g z n d i named =
+moves_thaw old new k c at v s z n d i named =
     let are : present_of new ≡ (clauses_of old.core.slots ++ c ∷ []) ++ clauses_of (set old.frozen.slots k None) =
     ap (λ x. x ++ clauses_of new.frozen.slots) (ap clauses_of s ∙ clauses_push old.core.slots c) ∙ ap (λ x. (clauses_of old.core.slots ++ c ∷ []) ++ clauses_of x) z in
     record {
-      of = λ f w. record { vars = v ∙ w.vars; given = g ∙ w.given; originals = subst (StandFirst f.clauses) (sym s) (stand_push f.clauses old.core.slots w.originals (Some c)) };
+      vars = v;
       orders = subst (SameOrders (present_of old)) (sym are) (orders_thaw (clauses_of old.core.slots) old.frozen.slots k c at);
       conflicts = n;
       deletions = d;
@@ -72,14 +73,14 @@ moves_thaw old new k c at v s g z n d i named =
       named = named;
     }
 
--- a learnt clause is frozen
-pub moves_freeze : (old new : Solver) (k : ℕ) (c : List LitOf) → slot_at old.core.slots k ≡ Some c → old.given ≤ k → new.core.vars ≡ old.core.vars → new.core.slots ≡ set old.core.slots k None → new.given ≡ old.given
+-- a watched clause is frozen
+pub moves_freeze : (old new : Solver) (k : ℕ) (c : List LitOf) → slot_at old.core.slots k ≡ Some c → new.core.vars ≡ old.core.vars → new.core.slots ≡ set old.core.slots k None
     → new.frozen.slots ≡ old.frozen.slots ++ Some c ∷ [] → new.conflicts ≡ old.conflicts → new.deletions ≡ old.deletions → new.ids.wanted ≡ old.ids.wanted → ((h : HeldOf) → IsNamedBy h old → IsNamedBy h new) → Moves old new
-moves_freeze old new k c at low v s g z n d i named =
+moves_freeze old new k c at v s z n d i named =
     let are : present_of new ≡ clauses_of (set old.core.slots k None) ++ (clauses_of old.frozen.slots ++ c ∷ []) =
     ap (λ x. clauses_of x ++ clauses_of new.frozen.slots) s ∙ ap (λ x. clauses_of (set old.core.slots k None) ++ x) (ap clauses_of z ∙ clauses_push old.frozen.slots c) in
     record {
-      of = λ f w. record { vars = v ∙ w.vars; given = g ∙ w.given; originals = subst (StandFirst f.clauses) (sym s) (stand_set f.clauses old.core.slots w.originals k None (omega (arith, low, w.given))) };
+      vars = v;
       orders = subst (SameOrders (present_of old)) (sym are) (orders_freeze (clauses_of old.frozen.slots) old.core.slots k c at);
       conflicts = n;
       deletions = d;
@@ -88,11 +89,11 @@ moves_freeze old new k c at low v s g z n d i named =
     }
 
 -- numbers of clauses that are gone are given away
-pub moves_collect : (old new : Solver) → new.core.vars ≡ old.core.vars → new.core.slots ≡ present old.core.slots → new.given ≡ old.given → new.frozen ≡ old.frozen → new.conflicts ≡ old.conflicts → new.deletions ≡ old.deletions → new.ids.wanted ≡ old.ids.wanted → ((h : HeldOf) → IsNamedBy h old → IsNamedBy h new) → Moves old new
-moves_collect old new v s g z n d i named =
+pub moves_collect : (old new : Solver) → new.core.vars ≡ old.core.vars → new.core.slots ≡ present old.core.slots → new.frozen ≡ old.frozen → new.conflicts ≡ old.conflicts → new.deletions ≡ old.deletions → new.ids.wanted ≡ old.ids.wanted → ((h : HeldOf) → IsNamedBy h old → IsNamedBy h new) → Moves old new
+moves_collect old new v s z n d i named =
     let are : present_of new ≡ present_of old = ap (λ x. x ++ clauses_of new.frozen.slots) (ap clauses_of s ∙ clauses_map (clauses_of old.core.slots)) ∙ ap (λ (x : FrozenOf). clauses_of old.core.slots ++ clauses_of x.slots) z in
     record {
-      of = λ f w. record { vars = v ∙ w.vars; given = g ∙ w.given; originals = subst (StandFirst f.clauses) (sym s) (stand_present f.clauses old.core.slots w.originals) };
+      vars = v;
       orders = subst (SameOrders (present_of old)) (sym are) (orders_same (present_of old));
       conflicts = n;
       deletions = d;
@@ -100,13 +101,13 @@ moves_collect old new v s g z n d i named =
       named = named;
     }
 
-pub moves_collect_frozen : (old new : Solver) → new.core ≡ old.core → new.frozen.slots ≡ present old.frozen.slots → new.given ≡ old.given → new.conflicts ≡ old.conflicts → new.deletions ≡ old.deletions → new.ids.wanted ≡ old.ids.wanted → ((h : HeldOf) → IsNamedBy h old → IsNamedBy h new) → Moves old new
-moves_collect_frozen old new p z g n d i named =
+pub moves_collect_frozen : (old new : Solver) → new.core ≡ old.core → new.frozen.slots ≡ present old.frozen.slots → new.conflicts ≡ old.conflicts → new.deletions ≡ old.deletions → new.ids.wanted ≡ old.ids.wanted → ((h : HeldOf) → IsNamedBy h old → IsNamedBy h new) → Moves old new
+moves_collect_frozen old new p z n d i named =
     let v = ap (λ x. x.vars) p in
     let s = ap (λ x. x.slots) p in
     let are : present_of new ≡ present_of old = ap (λ x. clauses_of x ++ clauses_of new.frozen.slots) s ∙ ap (λ x. clauses_of old.core.slots ++ x) (ap clauses_of z ∙ clauses_map (clauses_of old.frozen.slots)) in
     record {
-      of = λ f w. record { vars = v ∙ w.vars; given = g ∙ w.given; originals = subst (StandFirst f.clauses) (sym s) w.originals };
+      vars = v;
       orders = subst (SameOrders (present_of old)) (sym are) (orders_same (present_of old));
       conflicts = n;
       deletions = d;
@@ -229,14 +230,25 @@ named_fact_by old new x id hints s z i l above all h w t =
 pub proper_one : (p : PropagatorOf) (l : LitOf) → IsJustified p → Contains p.trail l → IsProper p.vars (l ∷ [])
 proper_one p l v on = let w = v.within l on in record { within = All-cons (LitWithin p.vars) l [] (w.0, w.1) (All-nil (LitWithin p.vars)); short = (let a = w.0 in let b = w.1 in omega (arith, a, b)) }
 
--- what a solver rests on is the same
-pub solver_same : (old new : Solver) → new.core ≡ old.core → new.frozen ≡ old.frozen → new.pending ≡ old.pending → new.analysis ≡ old.analysis → IsSolver old → IsSolver new
-solver_same old new p z o a w = record {
+-- what a solver rests on is the same, and no literal is marked
+pub solver_unmarked : (old new : Solver) → new.core ≡ old.core → new.frozen ≡ old.frozen → new.pending ≡ old.pending → IsUnmarked old.core.vars new.analysis.seen.items new.analysis.lower.items new.analysis.current.items → IsSolver old → IsSolver new
+solver_unmarked old new p z o u w = record {
   frozen = ap (λ (x : FrozenOf). x.vars) z ∙ w.frozen ∙ sym (ap (λ (x : PropagatorOf). x.vars) p);
-  unmarked = subst (λ (x : PropagatorOf). IsUnmarked x.vars new.analysis.seen.items new.analysis.lower.items new.analysis.current.items) (sym p)
-      (subst (λ (x : Analysis). IsUnmarked old.core.vars x.seen.items x.lower.items x.current.items) (sym a) w.unmarked);
+  unmarked = subst (λ (x : PropagatorOf). IsUnmarked x.vars new.analysis.seen.items new.analysis.lower.items new.analysis.current.items) (sym p) u;
   justified = subst IsJustified (sym p) w.justified;
   pending = subst (λ x. IsPending x new.pending) (sym p) (subst (λ x. IsPending old.core x) (sym o) w.pending);
+}
+
+-- what a solver rests on is the same
+pub solver_same : (old new : Solver) → new.core ≡ old.core → new.frozen ≡ old.frozen → new.pending ≡ old.pending → new.analysis ≡ old.analysis → IsSolver old → IsSolver new
+solver_same old new p z o a w = solver_unmarked old new p z o (subst (λ (x : Analysis). IsUnmarked old.core.vars x.seen.items x.lower.items x.current.items) (sym a) w.unmarked) w
+
+-- nothing is left to do, where the clauses are the same
+pub rest_same : (old new : Solver) → new.core ≡ old.core → new.frozen ≡ old.frozen → IsAtRest old → IsAtRest new
+rest_same old new p z w = record {
+  level = ap (λ (x : PropagatorOf). x.limits) p ∙ w.level;
+  conflict = ap (λ (x : PropagatorOf). x.conflict) p ∙ w.conflict;
+  settled = subst (λ (x : PropagatorOf). IsFixpoint x.trail (clauses_of new.frozen.slots)) (sym p) (subst (λ (x : FrozenOf). IsFixpoint old.core.trail (clauses_of x.slots)) (sym z) w.settled);
 }
 
 -- a count that didn't fall, and then has risen
@@ -257,7 +269,7 @@ module _ {A : Type 0} (takes : A → LogLine → A → Type 0) where
 
   pub logged_moves : (old new : Solver) (f : FormulaOf) (first now : A) → Moves old new → HasLogged takes f first now old → HasLogged takes f first now new
   logged_moves old new f first now m h = record {
-    of = m.of f h.of;
+    of = m.vars ∙ h.of;
     live = h.live;
     held = held_as f first now new old.ids.wanted (present_of new) old.conflicts old.deletions h.live m.wanted refl m.conflicts m.deletions (held_orders old.ids.wanted f first now (present_of old) (present_of new) old.conflicts old.deletions h.live m.orders h.held);
     named = m.named h.live h.named;
@@ -274,9 +286,19 @@ module _ {A : Type 0} (takes : A → LogLine → A → Type 0) where
     pub leads_both : (a b c : Solver) (x y z : A) → Leads takes faults a b x y → Leads takes faults b c y z → Leads takes faults a c x z
     leads_both a b c x y z v w = record { on = λ f first h. w.on f first (v.on f first h); wanted = w.wanted ∙ v.wanted; later = (let l = v.later in let m = w.later in omega (arith, l, m)) }
 
+    -- clauses were added, or only moved, before the budget was spent
+    pub grows_leads : (budget : ℕ) (old new : Solver) (x y : A) → Leads takes faults old new x y → new.conflicts ≡ old.conflicts → old.conflicts < budget → Grows takes faults budget old new x y
+    grows_leads budget old new x y l n h = record { leads = l; more = omega (arith, n); in_time = omega (arith, n, h) }
+
+    pub grows_moves : (budget : ℕ) (old new : Solver) (now : A) → Moves old new → old.conflicts < budget → Grows takes faults budget old new now now
+    grows_moves budget old new now m h = grows_leads budget old new now now (leads_moves old new now m) m.conflicts h
+
+    pub grows_both : (budget : ℕ) (a b c : Solver) (x y z : A) → Grows takes faults budget a b x y → Grows takes faults budget b c y z → Grows takes faults budget a c x z
+    grows_both budget a b c x y z v w = record { leads = leads_both a b c x y z v.leads w.leads; more = (let m = v.more in let n = w.more in omega (arith, m, n)); in_time = w.in_time }
+
     -- nothing was reduced, or one thing after the other
     pub reduces_none : (s : Solver) (now : A) → IsSolver s → IsAtRest s → Reduces takes faults s s now now
-    reduces_none s now w r = record { leads = leads_moves s s now (moves_same s s refl refl refl refl refl refl refl); solver = w; rest = r; conflicts = refl }
+    reduces_none s now w r = record { leads = leads_moves s s now (moves_same s s refl refl refl refl refl refl); solver = w; rest = r; conflicts = refl }
 
     pub reduces_moves : (old new : Solver) (now : A) → Moves old new → IsSolver new → IsAtRest new → Reduces takes faults old new now now
     reduces_moves old new now m w r = record { leads = leads_moves old new now m; solver = w; rest = r; conflicts = m.conflicts }
@@ -286,19 +308,19 @@ module _ {A : Type 0} (takes : A → LogLine → A → Type 0) where
 
     -- a clause was logged and added
     pub leads_added : (old new : Solver) (c : List LitOf) (id : ℕ) (hints : List ℕ) (now next : A) → IsAddable old.core old.frozen c → AreFew (Adds c id hints) → IsHintedFor old (Adds c id hints) → takes now (Adds c id hints) next → faults now ≤ faults next
-        → new.core.vars ≡ old.core.vars → new.core.slots ≡ old.core.slots ++ Some c ∷ [] → new.given ≡ old.given → new.frozen ≡ old.frozen → new.conflicts ≡ old.conflicts + 1 → new.deletions ≡ old.deletions → new.ids.wanted ≡ old.ids.wanted
+        → new.core.vars ≡ old.core.vars → new.core.slots ≡ old.core.slots ++ Some c ∷ [] → new.frozen ≡ old.frozen → new.conflicts ≡ old.conflicts + 1 → new.deletions ≡ old.deletions → new.ids.wanted ≡ old.ids.wanted
         → ((h : HeldOf) → IsNamedBy h old → IsNamedBy (held_after h (Adds c id hints)) new) → Leads takes faults old new now next
-    leads_added old new c id hints now next a few by t later v s g z n d i named = record {
+    leads_added old new c id hints now next a few by t later v s z n d i named = record {
       on = λ f first h.
           let o = h.of in
           let F = clauses_of old.core.slots in
           let G = clauses_of old.frozen.slots in
           let are : present_of new ≡ (F ++ c ∷ []) ++ G = ap (λ x. x ++ clauses_of new.frozen.slots) (ap clauses_of s ∙ clauses_push old.core.slots c) ∙ ap (λ (x : FrozenOf). (F ++ c ∷ []) ++ clauses_of x.slots) z in
           record {
-            of = record { vars = v ∙ o.vars; given = g ∙ o.given; originals = subst (StandFirst f.clauses) (sym s) (stand_push f.clauses old.core.slots o.originals (Some c)) };
+            of = v ∙ o;
             live = held_after h.live (Adds c id hints);
             held = held_as f first next new old.ids.wanted ((F ++ c ∷ []) ++ G) (old.conflicts + 1) old.deletions (held_after h.live (Adds c id hints)) i are n d
-                (held_added takes old.ids.wanted f first now next F G old.conflicts old.deletions h.live c id hints h.held a.admitted a.new a.contingent (subst (λ x. IsProper x c) o.vars a.proper, few) (by h.live h.named) t);
+                (held_added takes old.ids.wanted f first now next F G old.conflicts old.deletions h.live c id hints h.held a.admitted a.new a.contingent (subst (λ x. IsProper x c) o a.proper, few) (by h.live h.named) t);
             named = named h.live h.named;
           };
       wanted = i;
@@ -307,17 +329,17 @@ module _ {A : Type 0} (takes : A → LogLine → A → Type 0) where
 
     -- a fact was logged
     pub leads_noted : (old new : Solver) (x : LitOf) (id : ℕ) (hints : List ℕ) (now next : A) → IsProper old.core.vars (x ∷ []) → AreFew (Notes x id hints) → IsHintedFor old (Notes x id hints) → takes now (Notes x id hints) next → faults now ≤ faults next
-        → new.core ≡ old.core → new.given ≡ old.given → new.frozen ≡ old.frozen → new.conflicts ≡ old.conflicts → new.deletions ≡ old.deletions → new.ids.wanted ≡ old.ids.wanted → ((h : HeldOf) → IsNamedBy h old → IsNamedBy (held_after h (Notes x id hints)) new)
+        → new.core ≡ old.core → new.frozen ≡ old.frozen → new.conflicts ≡ old.conflicts → new.deletions ≡ old.deletions → new.ids.wanted ≡ old.ids.wanted → ((h : HeldOf) → IsNamedBy h old → IsNamedBy (held_after h (Notes x id hints)) new)
         → Leads takes faults old new now next
-    leads_noted old new x id hints now next fits few by t later p g z n d i named = record {
+    leads_noted old new x id hints now next fits few by t later p z n d i named = record {
       on = λ f first h.
           let o = h.of in
           let are : present_of new ≡ present_of old = ap (λ (y : PropagatorOf). clauses_of y.slots ++ clauses_of new.frozen.slots) p ∙ ap (λ (y : FrozenOf). clauses_of old.core.slots ++ clauses_of y.slots) z in
           record {
-            of = record { vars = ap (λ (y : PropagatorOf). y.vars) p ∙ o.vars; given = g ∙ o.given; originals = subst (λ (y : PropagatorOf). StandFirst f.clauses y.slots) (sym p) o.originals };
+            of = ap (λ (y : PropagatorOf). y.vars) p ∙ o;
             live = held_after h.live (Notes x id hints);
             held = held_as f first next new old.ids.wanted (present_of old) old.conflicts old.deletions (held_after h.live (Notes x id hints)) i are n d
-                (held_noted takes old.ids.wanted f first now next (present_of old) old.conflicts old.deletions h.live x id hints h.held (subst (λ y. IsProper y (x ∷ [])) o.vars fits, few) (by h.live h.named) t);
+                (held_noted takes old.ids.wanted f first now next (present_of old) old.conflicts old.deletions h.live x id hints h.held (subst (λ y. IsProper y (x ∷ [])) o fits, few) (by h.live h.named) t);
             named = named h.live h.named;
           };
       wanted = i;
@@ -325,10 +347,10 @@ module _ {A : Type 0} (takes : A → LogLine → A → Type 0) where
     }
 
     -- a watched clause was deleted
-    pub leads_deleted : (old new : Solver) (k : ℕ) (c : List LitOf) (id : ℕ) (now next : A) → slot_at old.core.slots k ≡ Some c → old.given ≤ k → IsFixpoint old.core.trail (present_of old) → ((l : LitOf) → Contains c l → Contains old.core.trail l → ⊥)
+    pub leads_deleted : (old new : Solver) (k : ℕ) (c : List LitOf) (id : ℕ) (now next : A) → slot_at old.core.slots k ≡ Some c → IsFixpoint old.core.trail (present_of old) → ((l : LitOf) → Contains c l → Contains old.core.trail l → ⊥)
         → IsProper old.core.vars c → 2 * (old.deletions + 1) ≤ old.conflicts → id ≡ id_at old.ids.watched k → id < 2 ^ 63 → takes now (Drops c id) next → faults now ≤ faults next → new.core.vars ≡ old.core.vars → new.core.slots ≡ set old.core.slots k None
-        → new.given ≡ old.given → new.frozen ≡ old.frozen → new.conflicts ≡ old.conflicts → new.deletions ≡ old.deletions + 1 → new.ids ≡ old.ids → Leads takes faults old new now next
-    leads_deleted old new k c id now next at low fix off fits few q low63 t later v s g z n d i = record {
+        → new.frozen ≡ old.frozen → new.conflicts ≡ old.conflicts → new.deletions ≡ old.deletions + 1 → new.ids ≡ old.ids → Leads takes faults old new now next
+    leads_deleted old new k c id now next at fix off fits few q low63 t later v s z n d i = record {
       on = λ f first h.
           let o = h.of in
           let B = clauses_of old.frozen.slots in
@@ -338,10 +360,10 @@ module _ {A : Type 0} (takes : A → LogLine → A → Type 0) where
           let held = subst (λ x. IsHeld takes old.ids.wanted f first now x old.conflicts old.deletions h.live) was h.held in
           let del = reorders_delete old.core.trail w.0 (w.1 ++ B) held.order c held.reorders (subst (IsFixpoint old.core.trail) was fix) off in
           record {
-            of = record { vars = v ∙ o.vars; given = g ∙ o.given; originals = subst (StandFirst f.clauses) (sym s) (stand_set f.clauses old.core.slots o.originals k None (omega (arith, low, o.given))) };
+            of = v ∙ o;
             live = held_after h.live (Drops c id);
             held = held_as f first next new old.ids.wanted (w.0 ++ (w.1 ++ B)) old.conflicts (old.deletions + 1) (held_after h.live (Drops c id)) (ap (λ (x : IdsOf). x.wanted) i) are n d
-                (held_deleted takes old.ids.wanted f first now next (w.0 ++ c ∷ (w.1 ++ B)) (w.0 ++ (w.1 ++ B)) del.0 old.conflicts old.deletions h.live c id held del.1 del.2 (subst (λ x. IsProper x c) o.vars fits, low63) few
+                (held_deleted takes old.ids.wanted f first now next (w.0 ++ c ∷ (w.1 ++ B)) (w.0 ++ (w.1 ++ B)) del.0 old.conflicts old.deletions h.live c id held del.1 del.2 (subst (λ x. IsProper x c) o fits, low63) few
                 (λ y. let x = h.named y in drops_watched old h.live k c id at q x.0) t);
             named = named_deleted old new h.live k c id at q s (ap (λ (x : FrozenOf). x.slots) z) i h.named;
           };
@@ -352,8 +374,8 @@ module _ {A : Type 0} (takes : A → LogLine → A → Type 0) where
     -- a frozen clause was
     pub leads_deleted_frozen : (old new : Solver) (k : ℕ) (c : List LitOf) (id : ℕ) (now next : A) → slot_at old.frozen.slots k ≡ Some c → IsFixpoint old.core.trail (present_of old) → ((l : LitOf) → Contains c l → Contains old.core.trail l → ⊥)
         → IsProper old.core.vars c → 2 * (old.deletions + 1) ≤ old.conflicts → id ≡ id_at old.ids.frozen k → id < 2 ^ 63 → takes now (Drops c id) next → faults now ≤ faults next → new.core ≡ old.core → new.frozen.slots ≡ set old.frozen.slots k None
-        → new.given ≡ old.given → new.conflicts ≡ old.conflicts → new.deletions ≡ old.deletions + 1 → new.ids ≡ old.ids → Leads takes faults old new now next
-    leads_deleted_frozen old new k c id now next at fix off fits few q low63 t later p s g n d i = record {
+        → new.conflicts ≡ old.conflicts → new.deletions ≡ old.deletions + 1 → new.ids ≡ old.ids → Leads takes faults old new now next
+    leads_deleted_frozen old new k c id now next at fix off fits few q low63 t later p s n d i = record {
       on = λ f first h.
           let o = h.of in
           let A = clauses_of old.core.slots in
@@ -363,10 +385,10 @@ module _ {A : Type 0} (takes : A → LogLine → A → Type 0) where
           let held = subst (λ x. IsHeld takes old.ids.wanted f first now x old.conflicts old.deletions h.live) was h.held in
           let del = reorders_delete old.core.trail (A ++ w.0) w.1 held.order c held.reorders (subst (IsFixpoint old.core.trail) was fix) off in
           record {
-            of = record { vars = ap (λ (x : PropagatorOf). x.vars) p ∙ o.vars; given = g ∙ o.given; originals = subst (λ (x : PropagatorOf). StandFirst f.clauses x.slots) (sym p) o.originals };
+            of = ap (λ (x : PropagatorOf). x.vars) p ∙ o;
             live = held_after h.live (Drops c id);
             held = held_as f first next new old.ids.wanted ((A ++ w.0) ++ w.1) old.conflicts (old.deletions + 1) (held_after h.live (Drops c id)) (ap (λ (x : IdsOf). x.wanted) i) are n d
-                (held_deleted takes old.ids.wanted f first now next ((A ++ w.0) ++ c ∷ w.1) ((A ++ w.0) ++ w.1) del.0 old.conflicts old.deletions h.live c id held del.1 del.2 (subst (λ x. IsProper x c) o.vars fits, low63) few
+                (held_deleted takes old.ids.wanted f first now next ((A ++ w.0) ++ c ∷ w.1) ((A ++ w.0) ++ w.1) del.0 old.conflicts old.deletions h.live c id held del.1 del.2 (subst (λ x. IsProper x c) o fits, low63) few
                 (λ y. let x = h.named y in drops_frozen old h.live k c id at q x.0) t);
             named = named_deleted_frozen old new h.live k c id at q (ap (λ (x : PropagatorOf). x.slots) p) s i h.named;
           };
@@ -396,7 +418,7 @@ module _ {A : Type 0} (takes : A → LogLine → A → Type 0) where
           let F = clauses_of old.core.slots in
           let G = clauses_of old.frozen.slots in
           held_stops takes old.ids.wanted f budget first next ((F ++ c ∷ []) ++ G) (old.conflicts + 1) old.deletions (held_after k.live (Adds c id hints)) (omega (arith, h))
-          (held_added takes old.ids.wanted f first now next F G old.conflicts old.deletions k.live c id hints k.held a.admitted a.new a.contingent (subst (λ x. IsProper x c) o.vars a.proper, few) (by k.live k.named) t)
+          (held_added takes old.ids.wanted f first now next F G old.conflicts old.deletions k.live c id hints k.held a.admitted a.new a.contingent (subst (λ x. IsProper x c) o a.proper, few) (by k.live k.named) t)
 
       -- the log failed at a clause that was to be added
       pub fails_added : (old : Solver) (c : List LitOf) (id : ℕ) (hints : List ℕ) (now next : A) → IsAddable old.core old.frozen c → AreFew (Adds c id hints) → IsHintedFor old (Adds c id hints) → fails now (Adds c id hints) next → Rose (faults now) (faults next)
@@ -404,7 +426,7 @@ module _ {A : Type 0} (takes : A → LogLine → A → Type 0) where
       fails_added old c id hints now next a few by e r =
           let F = clauses_of old.core.slots in
           let G = clauses_of old.frozen.slots in (
-            (λ f first budget h k. (let o = k.of in breaks_added takes old.ids.wanted f fails budget first now next F G old.conflicts old.deletions k.live c id hints h k.held a.admitted a.new a.contingent (subst (λ x. IsProper x c) o.vars a.proper, few) (by k.live k.named) e)),
+            (λ f first budget h k. (let o = k.of in breaks_added takes old.ids.wanted f fails budget first now next F G old.conflicts old.deletions k.live c id hints h k.held a.admitted a.new a.contingent (subst (λ x. IsProper x c) o a.proper, few) (by k.live k.named) e)),
             r,
           )
 
@@ -412,7 +434,7 @@ module _ {A : Type 0} (takes : A → LogLine → A → Type 0) where
       pub fails_noted : (old : Solver) (x : LitOf) (id : ℕ) (hints : List ℕ) (now next : A) → IsProper old.core.vars (x ∷ []) → AreFew (Notes x id hints) → IsHintedFor old (Notes x id hints) → fails now (Notes x id hints) next → Rose (faults now) (faults next)
           → Stops takes fails faults old now next Failed
       fails_noted old x id hints now next fits few by e r = (
-        (λ f first budget h k. (let o = k.of in breaks_noted takes old.ids.wanted f fails budget first now next (present_of old) old.conflicts old.deletions k.live x id hints h k.held (subst (λ y. IsProper y (x ∷ [])) o.vars fits, few) (by k.live k.named) e)),
+        (λ f first budget h k. (let o = k.of in breaks_noted takes old.ids.wanted f fails budget first now next (present_of old) old.conflicts old.deletions k.live x id hints h k.held (subst (λ y. IsProper y (x ∷ [])) o fits, few) (by k.live k.named) e)),
         r,
       )
 
@@ -427,7 +449,7 @@ module _ {A : Type 0} (takes : A → LogLine → A → Type 0) where
                 let o = m.of in
                 let held = subst (λ x. IsHeld takes old.ids.wanted f first now x old.conflicts old.deletions m.live) was m.held in
                 let del = reorders_delete old.core.trail w.0 (w.1 ++ B) held.order c held.reorders (subst (IsFixpoint old.core.trail) was fix) off in
-                breaks_deleted takes old.ids.wanted f fails budget first now next (w.0 ++ c ∷ (w.1 ++ B)) del.0 old.conflicts old.deletions m.live c id h held del.1 (subst (λ x. IsProper x c) o.vars fits, low63) few (λ y. let x = m.named y in drops_watched old m.live k c id at q x.0) e),
+                breaks_deleted takes old.ids.wanted f fails budget first now next (w.0 ++ c ∷ (w.1 ++ B)) del.0 old.conflicts old.deletions m.live c id h held del.1 (subst (λ x. IsProper x c) o fits, low63) few (λ y. let x = m.named y in drops_watched old m.live k c id at q x.0) e),
             r,
           )
 
@@ -441,31 +463,29 @@ module _ {A : Type 0} (takes : A → LogLine → A → Type 0) where
                 let o = m.of in
                 let held = subst (λ x. IsHeld takes old.ids.wanted f first now x old.conflicts old.deletions m.live) was m.held in
                 let del = reorders_delete old.core.trail (A ++ w.0) w.1 held.order c held.reorders (subst (IsFixpoint old.core.trail) was fix) off in
-                breaks_deleted takes old.ids.wanted f fails budget first now next ((A ++ w.0) ++ c ∷ w.1) del.0 old.conflicts old.deletions m.live c id h held del.1 (subst (λ x. IsProper x c) o.vars fits, low63) few (λ y. let x = m.named y in drops_frozen old m.live k c id at q x.0) e),
+                breaks_deleted takes old.ids.wanted f fails budget first now next ((A ++ w.0) ++ c ∷ w.1) del.0 old.conflicts old.deletions m.live c id h held del.1 (subst (λ x. IsProper x c) o fits, low63) few (λ y. let x = m.named y in drops_frozen old m.live k c id at q x.0) e),
             r,
           )
 
       -- the result of a step after what was logged before
       pub step_later : (old mid new : Solver) (now then next : A) (s : Step) → Leads takes faults old mid now then → mid.conflicts ≡ old.conflicts → length (clauses_of mid.frozen.slots) ≤ length (clauses_of old.frozen.slots)
           → StepFits takes fails faults mid new then next s → StepFits takes fails faults old new now next s
-      step_later old mid new now then next (Answered s) l n few w = (w.0, λ f first budget h k. subst (λ z. SolvedFits takes fails z f budget first next s) l.wanted (w.1 f first budget (omega (arith, h, n)) (l.on f first k)))
+      step_later old mid new now then next (Answered s) l n few w = (w.0, λ f first budget h k right. subst (λ z. SolvedFits takes fails z f budget first next s) l.wanted (w.1 f first budget (omega (arith, h, n)) (l.on f first k) right))
       step_later old mid new now then next Learnt l n few w = (leads_both old mid new now then next l w.0, w.1 ∙ ap (λ z. z + 1) n)
       step_later old mid new now then next Thawed l n few w = (leads_both old mid new now then next l w.0, w.1 ∙ n, (let a = w.2 in omega (arith, a, few)))
 
       -- values were found
-      pub step_finds : (s t : Solver) (now : A) (values : List Bool) → Moves s t → length values ≡ t.core.vars + 1 → Satisfies (valued values) (clauses_of t.core.slots) → (f : FormulaOf) (first : A) (budget : ℕ) → s.conflicts < budget
-          → HasLogged takes f first now s → IsFound takes s.ids.wanted f budget first now values
-      step_finds s t now values m sized sat f first budget h k =
+      pub step_finds : (s t : Solver) (now : A) (values : List Bool) → Moves s t → length values ≡ t.core.vars + 1 → (f : FormulaOf) (first : A) (budget : ℕ) → s.conflicts < budget → HasLogged takes f first now s → Satisfies (valued values) f.clauses
+          → IsFound takes s.ids.wanted f budget first now values
+      step_finds s t now values m sized f first budget h k right =
           let w = logged_moves s t f first now m k in
-          let o = w.of in
-          let all = stand_all f.clauses t.core.slots o.originals in
           subst (λ z. IsFound takes z f budget first now values) m.wanted
-          (held_finds takes t.ids.wanted f budget first now (present_of t) t.conflicts t.deletions w.live values (let n = m.conflicts in omega (arith, h, n)) w.held (sized ∙ ap (λ z. z + 1) o.vars) (λ d i. sat d (all.each d i)))
+          (held_finds takes t.ids.wanted f budget first now (present_of t) t.conflicts t.deletions w.live values (let n = m.conflicts in omega (arith, h, n)) w.held (sized ∙ ap (λ z. z + 1) w.of) right)
 
       -- there are none
       pub step_refutes : (t : Solver) (id : ℕ) (hints : List ℕ) (now next : A) → IsAdmitted (clauses_of t.core.slots) [] → AreFew (Adds [] id hints) → IsHintedFor t (Adds [] id hints) → takes now (Adds [] id hints) next → (f : FormulaOf) (first : A) (budget : ℕ)
-          → t.conflicts < budget → HasLogged takes f first now t → IsRefuted takes t.ids.wanted f budget first next
-      step_refutes t id hints now next admits few by taken f first budget h k =
+          → t.conflicts < budget → HasLogged takes f first now t → AreRight f Unsat → IsRefuted takes t.ids.wanted f budget first next
+      step_refutes t id hints now next admits few by taken f first budget h k right =
           held_refutes takes t.ids.wanted f budget first now next (clauses_of t.core.slots) (clauses_of t.frozen.slots) t.conflicts t.deletions k.live id hints h k.held admits (proper_empty f.vars, few) (by k.live k.named) taken
 
       pub fails_empty : (t : Solver) (id : ℕ) (hints : List ℕ) (now next : A) → IsAdmitted (clauses_of t.core.slots) [] → AreFew (Adds [] id hints) → IsHintedFor t (Adds [] id hints) → fails now (Adds [] id hints) next → Rose (faults now) (faults next)
@@ -479,3 +499,29 @@ module _ {A : Type 0} (takes : A → LogLine → A → Type 0) where
       pub stops_ends : (s : Solver) (now next : A) (e : Stop) (f : FormulaOf) (first : A) (budget : ℕ) → s.conflicts < budget → HasLogged takes f first now s → Stops takes fails faults s now next e → EndsBy takes fails s.ids.wanted f budget first next e
       stops_ends s now next OutOfMemory f first budget h k w = w f first budget h k
       stops_ends s now next Failed f first budget h k w = w.0 f first budget h k
+
+      -- it did, after clauses were added
+      pub ended_later : (budget : ℕ) (s mid : Solver) (now then next : A) (e : Stop) → Grows takes faults budget s mid now then → Stops takes fails faults mid then next e → Ended takes fails faults budget s now next e
+      ended_later budget s mid now then next e g w =
+          let l = g.leads in
+          let a = l.later in
+          record {
+            ends = λ f first k. subst (λ z. EndsBy takes fails z f budget first next e) l.wanted (stops_ends mid then next e f first budget g.in_time (l.on f first k) w);
+            cause = λ q. rose_later (faults now) (faults then) (faults next) a (rose_of mid then next e w q);
+          }
+        where
+          rose_of : (s : Solver) (now next : A) (e : Stop) → Stops takes fails faults s now next e → e ≡ Failed → Rose (faults now) (faults next)
+          rose_of s now next OutOfMemory w q = absurd (let x : OutOfMemory ≡ Failed = q in cc)
+          rose_of s now next Failed w q = w.1
+
+      pub ended_now : (budget : ℕ) (s mid : Solver) (now then : A) → Grows takes faults budget s mid now then → Ended takes fails faults budget s now then OutOfMemory
+      ended_now budget s mid now then g = ended_later budget s mid now then then OutOfMemory g (stops_now mid then)
+
+      pub ended_both : (budget : ℕ) (s mid : Solver) (now then next : A) (e : Stop) → Grows takes faults budget s mid now then → Ended takes fails faults budget mid then next e → Ended takes fails faults budget s now next e
+      ended_both budget s mid now then next e g w =
+          let l = g.leads in
+          let a = l.later in
+          record {
+            ends = λ f first k. subst (λ z. EndsBy takes fails z f budget first next e) l.wanted (w.ends f first (l.on f first k));
+            cause = λ q. rose_later (faults now) (faults then) (faults next) a (w.cause q);
+          }

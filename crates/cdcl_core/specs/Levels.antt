@@ -1,5 +1,5 @@
 -- What the levels of a propagator hold.
-use Rattle.std.specs.Prelude.{◌≡◌, ◌⊎◌, ℕ, ◌+◌, ◌-◌, ◌<◌, ◌≤◌, true, false, List, [], length, take, Option, Some, None, Contains, slice_index_or}
+use Rattle.std.specs.Prelude.{◌≡◌, ◌⊎◌, ℕ, ◌+◌, ◌-◌, ◌<◌, true, false, List, [], length, take, Option, Some, None, Contains, slice_index_or}
 use Rattle.cnf_form.specs.Cnf.{LitOf, LitWithin}
 use Rattle.cdcl_core.specs.declared.search.Found.{Found}
 use Rattle.cdcl_core.specs.declared.search.Found.TheVariants.{Assigned, Refuted, Falsified}
@@ -31,12 +31,8 @@ abbrev pub IsPending : PropagatorOf → Option ℕ → Type 0
 IsPending p None = (p.conflict ≡ false) ⊎ ((p.conflict ≡ true) × (p.limits ≡ []) × HasFalsified p.trail (clauses_of p.slots))
 IsPending p (Some k) = (p.conflict ≡ true) × ((c : List LitOf) × (slot_at p.slots k ≡ Some c) × IsFalsified p.trail c)
 
--- each variable has a value
-abbrev pub IsTotal : PropagatorOf → Type 0
-IsTotal p = (v : ℕ) → 0 < v → v ≤ p.vars → Contains p.trail (record { var = v; negated = false }) ⊎ Contains p.trail (record { var = v; negated = true })
-
--- what a search on levels finds: values for all variables, a falsified clause at level 0, or one above
+-- what a search on levels finds: no clause is falsified, one is at level 0, or one is above
 abbrev pub FoundFits : PropagatorOf → Found → Type 0
-FoundFits p Assigned = (p.conflict ≡ false) × IsTotal p
+FoundFits p Assigned = p.conflict ≡ false
 FoundFits p Refuted = (p.limits ≡ []) × HasFalsified p.trail (clauses_of p.slots)
 FoundFits p (Falsified k) = (0 < length p.limits) × IsPending p (Some k)

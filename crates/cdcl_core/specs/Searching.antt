@@ -1,19 +1,20 @@
 -- A search on its way: the solver's state, and how far its log leads.
-use Rattle.std.specs.Prelude.{◌≡◌, ◌≢◌, ℕ, ◌<◌, ◌+◌, ◌≤◌, Bool, IsTrue, false, List, [], length, Option, Some, slice_index_or}
-use Rattle.cnf_form.specs.Cnf.{LitOf, FormulaOf, IsAdmitted}
+use Rattle.std.specs.Prelude.{◌≡◌, ◌≢◌, ℕ, ◌<◌, ◌+◌, ◌≤◌, Bool, IsTrue, false, List, [], length, Option, Some, None}
+use Rattle.cnf_form.specs.Cnf.{LitOf, FormulaOf, ClauseWithin, IsAdmitted, Satisfies}
 use Rattle.sby_edge.specs.Cause.{Rose}
-use Rattle.unit_propagation.specs.Propagation.{IsFixpoint}
-use Rattle.unit_propagation.specs.Propagator.{PropagatorOf, clauses_of, slot_at}
+use Rattle.unit_propagation.specs.Propagation.{ContainsAll, IsFixpoint}
+use Rattle.unit_propagation.specs.Propagator.{PropagatorOf, clauses_of}
 use Rattle.frozen_clauses.specs.Frozen.{FrozenOf}
 use Rattle.cdcl_core.specs.Present.{all_of, Reorders, SameOrders}
-use Rattle.cdcl_core.specs.Levels.{IsJustified, IsPending}
+use Rattle.cdcl_core.specs.Levels.{IsJustified, IsPending, base_of}
 use Rattle.hint_chain.specs.Ids.{IsNamed}
 use Rattle.cdcl_core.specs.Lines.{LogLine, HeldOf}
 use Rattle.cdcl_core.specs.Logged.{IsNew, IsContingent, IsProper}
-use Rattle.cdcl_core.specs.Analysis.{IsUnmarked}
-use Rattle.cdcl_core.specs.Solving.{IsSearch, IsStopped, IsBroken, SolvedFits}
+use Rattle.cdcl_core.specs.Analysis.{IsUnmarked, IsLearnt}
+use Rattle.cdcl_core.specs.Solving.{IsSearch, IsStopped, IsBroken, SolvedFits, valued}
 use Rattle.cdcl_core.specs.declared.solver.Solver.{Solver}
-use Rattle.cdcl_core.specs.declared.solver.Solved.TheVariants.{LogFailed}
+use Rattle.cdcl_core.specs.declared.solver.Solved.{Solved}
+use Rattle.cdcl_core.specs.declared.solver.Solved.TheVariants.{Sat, Unsat, Budget, LogFailed}
 use Rattle.cdcl_core.specs.declared.solver.Step.{Step}
 use Rattle.cdcl_core.specs.declared.solver.Step.TheVariants.{Answered, Learnt, Thawed}
 use Rattle.cdcl_core.specs.declared.stop.Stop.{Stop}
@@ -37,15 +38,9 @@ pub record IsAtRest (s : Solver) : Type 0 where
 abbrev pub present_of : Solver → List (List LitOf)
 present_of s = all_of s.core s.frozen
 
--- the clauses stand at the first numbers, in order
-abbrev pub StandFirst : List (List LitOf) → List (Option (List LitOf)) → Type 0
-StandFirst F slots = (j : ℕ) (d : List LitOf) → j < length F → slot_at slots j ≡ Some (slice_index_or F j d)
-
--- it searches for values of this formula, whose clauses stand first
-pub record IsOf (f : FormulaOf) (s : Solver) : Type 0 where
-  pub vars : s.core.vars ≡ f.vars
-  pub given : s.given ≡ length f.clauses
-  pub originals : StandFirst f.clauses s.core.slots
+-- it has the formula's variables
+abbrev pub IsOf : FormulaOf → Solver → Type 0
+IsOf f s = s.core.vars ≡ f.vars
 
 -- lines were logged that lead to these clauses, in some order, and, where the log is hinted, to these live ones: this many additions and deletions
 pub record IsHeld {A : Type 0} (takes : A → LogLine → A → Type 0) (hinted : Bool) (f : FormulaOf) (first now : A) (present : List (List LitOf)) (count deleted : ℕ) (held : HeldOf) : Type 0 where
@@ -73,7 +68,7 @@ pub record Leads {A : Type 0} (takes : A → LogLine → A → Type 0) (faults :
 
 -- the same where clauses were only moved between the watched and the frozen ones
 pub record Moves (old new : Solver) : Type 0 where
-  pub of : (f : FormulaOf) → IsOf f old → IsOf f new
+  pub vars : new.core.vars ≡ old.core.vars
   pub orders : SameOrders (present_of old) (present_of new)
   pub conflicts : new.conflicts ≡ old.conflicts
   pub deletions : new.deletions ≡ old.deletions
@@ -95,19 +90,53 @@ Stops takes fails faults old now next Failed =
     ((f : FormulaOf) (first : _) (budget : ℕ) → old.conflicts < budget → HasLogged takes f first now old → IsBroken takes fails old.ids.wanted f budget first next)
     × Rose (faults now) (faults next)
 
+-- clauses were added before the budget was spent
+pub record Grows {A : Type 0} (takes : A → LogLine → A → Type 0) (faults : A → ℕ) (budget : ℕ) (old new : Solver) (now next : A) : Type 0 where
+  pub leads : Leads takes faults old new now next
+  pub more : old.conflicts ≤ new.conflicts
+  pub in_time : new.conflicts < budget
+
 -- how a search ended that stopped
 abbrev pub EndsBy : {A : Type 0} → (A → LogLine → A → Type 0) → (A → LogLine → A → Type 0) → Bool → FormulaOf → ℕ → A → A → Stop → Type 0
 EndsBy takes fails hinted f budget first now OutOfMemory = IsStopped takes hinted f budget first now
 EndsBy takes fails hinted f budget first now Failed = IsBroken takes fails hinted f budget first now
 
--- the result of a step: an answer, one more clause that was learnt, or a frozen one that was thawed
+-- values that are an answer satisfy the formula
+abbrev pub AreRight : FormulaOf → Solved → Type 0
+AreRight f (Sat values) = Satisfies (valued values.items) f.clauses
+AreRight f Unsat = Unit {0}
+AreRight f Budget = Unit {0}
+AreRight f LogFailed = Unit {0}
+
+-- so, where a step ends with an answer
+abbrev pub IsRight : FormulaOf → Step → Type 0
+IsRight f (Answered s) = AreRight f s
+IsRight f Learnt = Unit {0}
+IsRight f Thawed = Unit {0}
+
+-- how it did, from where the log led to a solver's old state
+pub record Ended {A : Type 0} (takes : A → LogLine → A → Type 0) (fails : A → LogLine → A → Type 0) (faults : A → ℕ) (budget : ℕ) (old : Solver) (now next : A) (e : Stop) : Type 0 where
+  pub ends : (f : FormulaOf) (first : A) → HasLogged takes f first now old → EndsBy takes fails old.ids.wanted f budget first next e
+  pub cause : e ≡ Failed → Rose (faults now) (faults next)
+
+-- the result of a step: an answer, where its values are right, one more clause that was learnt, or a frozen one that was thawed
 abbrev pub StepFits : {A : Type 0} → (A → LogLine → A → Type 0) → (A → LogLine → A → Type 0) → (A → ℕ) → Solver → Solver → A → A → Step → Type 0
 StepFits takes fails faults old new now next (Answered s) =
-    (s ≢ LogFailed) × ((f : FormulaOf) (first : _) (budget : ℕ) → old.conflicts < budget → HasLogged takes f first now old → SolvedFits takes fails old.ids.wanted f budget first next s)
+    (s ≢ LogFailed) × ((f : FormulaOf) (first : _) (budget : ℕ) → old.conflicts < budget → HasLogged takes f first now old → AreRight f s → SolvedFits takes fails old.ids.wanted f budget first next s)
 StepFits takes fails faults old new now next Learnt = Leads takes faults old new now next × (new.conflicts ≡ old.conflicts + 1)
 StepFits takes fails faults old new now next Thawed =
     Leads takes faults old new now next × (new.conflicts ≡ old.conflicts)
     × (length (clauses_of new.frozen.slots) < length (clauses_of old.frozen.slots))
+
+-- where a clause is added: at level 0, or above it, where it makes its first literal true
+abbrev pub IsPlaced : PropagatorOf → List LitOf → Option LitOf → Type 0
+IsPlaced p c None = (p.limits ≡ []) × IsPending p None × ClauseWithin p.vars c
+IsPlaced p c (Some first) = (0 < length p.limits) × IsLearnt p (base_of p) c first
+
+-- frozen clauses are the watched ones, and maybe more
+pub record IsIndexed (p : PropagatorOf) (index : FrozenOf) : Type 0 where
+  pub vars : index.vars ≡ p.vars
+  pub all : ContainsAll (clauses_of p.slots) (clauses_of index.slots)
 
 -- a clause that may be logged and added: the watched clauses admit it, no present one is a subset of it, and it is neither empty nor a tautology
 pub record IsAddable (p : PropagatorOf) (z : FrozenOf) (c : List LitOf) : Type 0 where

@@ -66,6 +66,20 @@ impl Analysis {
         self.used.as_slice()
     }
 
+    // Takes a resolvent of two clauses with these numbers for the clause that is to be added.
+    pub fn take(&mut self, resolvent: &[Lit], first: u32, second: u32) -> Result<(), AllocError>
+        ensures seen { self.new.seen ≡ self.old.seen }
+        ensures lower { self.new.lower ≡ self.old.lower }
+        ensures current { self.new.current ≡ self.old.current }
+    {
+        self.clause.clear();
+        self.clause.extend_from_slice(resolvent)?;
+        self.used.clear();
+        self.used.push(second)?;
+        self.used.push(first)?;
+        Ok(())
+    }
+
     // Whether a literal is marked.
     pub fn has(&self, l: Lit) -> bool {
         match self.seen.get(l.index()) {

@@ -1,9 +1,8 @@
 // Which literal is decided next.
 
-ghost use Rattle.std.specs.Prelude.{◌≡◌, ◌*◌, ◌+◌, ◌<◌, ◌≤◌, false, length, IsTrue, IfSome, IfNone, Contains, ◌⊎◌};
-ghost use Rattle.cnf_form.specs.Cnf.{negate, LitWithin};
+ghost use Rattle.std.specs.Prelude.{◌*◌, ◌+◌, ◌≤◌, length, IfSome};
+ghost use Rattle.cnf_form.specs.Cnf.{LitWithin};
 ghost use Rattle.unit_propagation.specs.Propagation.{IsUnassigned};
-ghost use Rattle.cdcl_core.specs.Levels.{IsTotal};
 
 use cnf_form::{Formula, Lit};
 use decision_order::{Order, is_unassigned};
@@ -12,11 +11,10 @@ use unit_propagation::Propagator;
 // A shorter last clause isn't taken for a goal.
 const LEAST_GOAL: usize = 4;
 
-// The literal of the unassigned variable that comes first in focused mode.
-fn unassigned_by_queue(core: &Propagator, order: &mut Order) -> Option<Lit>
+// The literal of a variable, with its phase, if that is unassigned.
+fn unassigned(core: &Propagator, order: &Order, var: u32) -> Option<Lit>
     ensures { IfSome result (λ l. LitWithin core.now.vars l × IsUnassigned core.now.trail l) }
 {
-    let var = order.front(core);
     if 0 < var && var <= core.vars() {
         let l = Lit::new(var, order.phase(var));
         if is_unassigned(core, l) {
@@ -26,17 +24,17 @@ fn unassigned_by_queue(core: &Propagator, order: &mut Order) -> Option<Lit>
     None
 }
 
-// The literal of the most active unassigned variable, with its phase.
+// The literal of the most active unassigned variable that isn't passed over.
 fn unassigned_by_order(core: &Propagator, order: &mut Order) -> Option<Lit>
     ensures { IfSome result (λ l. LitWithin core.now.vars l × IsUnassigned core.now.trail l) }
 {
     for _ in 0..order.len() {
         let var = order.pop();
-        if 0 < var && var <= core.vars() {
-            let l = Lit::new(var, order.phase(var));
-            if is_unassigned(core, l) {
-                return Some(l);
-            }
+        if order.is_passed(var) {
+            continue;
+        }
+        if let Some(l) = unassigned(core, order, var) {
+            return Some(l);
         }
     }
     None
@@ -44,8 +42,7 @@ fn unassigned_by_order(core: &Propagator, order: &mut Order) -> Option<Lit>
 
 // The literal of the first unassigned variable.
 fn first_unassigned(core: &Propagator) -> Option<Lit>
-    ensures some { IfSome result (λ l. LitWithin core.now.vars l × IsUnassigned core.now.trail l) }
-    ensures none { IfNone result (IsTotal core.now) }
+    ensures { IfSome result (λ l. LitWithin core.now.vars l × IsUnassigned core.now.trail l) }
 {
     for place in 0..core.vars() {
         let l = Lit::new(place + 1, true);
@@ -77,11 +74,10 @@ pub(crate) fn has_goal(formula: &Formula) -> bool {
     clauses.len() > 0 && is_goal(clauses.get(clauses.len() - 1))
 }
 
-// An unassigned literal: one that is guessed, else the first goal that isn't refuted, else the first in order.
-// None where all variables have values.
+// An unassigned literal: one that is guessed, else the first goal that isn't refuted, else the first in order, else one that is passed
+// over. None where all variables have values.
 pub(crate) fn choose(core: &Propagator, order: &mut Order, formula: &Formula) -> Option<Lit>
     ensures some { IfSome result (λ l. LitWithin core.now.vars l × IsUnassigned core.now.trail l) }
-    ensures none { IfNone result (IsTotal core.now) }
     ensures room { length core.now.trail ≤ 2 * core.now.vars + 2 }
 {
     let _room = core.trail().len();
@@ -95,10 +91,15 @@ pub(crate) fn choose(core: &Propagator, order: &mut Order, formula: &Formula) ->
             return Some(l);
         }
     }
-    if let Some(l) = unassigned_by_queue(core, order) {
+    let front = order.front(core);
+    if let Some(l) = unassigned(core, order, front) {
         return Some(l);
     }
     if let Some(l) = unassigned_by_order(core, order) {
+        return Some(l);
+    }
+    let passed = order.next_passed(core);
+    if let Some(l) = unassigned(core, order, passed) {
         return Some(l);
     }
     first_unassigned(core)

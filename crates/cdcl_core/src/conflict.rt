@@ -1,18 +1,18 @@
 // What a search learns from a falsified clause.
 
 ghost use Rattle.std.specs.Prelude.{◌≡◌, ◌+◌, ◌*◌, ◌-◌, ◌^◌, ◌<◌, ◌≤◌, ◌++◌, ◌∷◌, [], ℕ, List, length, Contains, IsTrue, IfOk, IfErr, IfSome, OnOk, Some};
-ghost use Rattle.cnf_form.specs.Cnf.{LitOf};
+ghost use Rattle.cnf_form.specs.Cnf.{FormulaOf, LitOf};
 ghost use Rattle.unit_propagation.specs.Propagator.{clauses_of, slot_at};
 ghost use Rattle.cdcl_core.specs.Levels.{IsJustified, IsPending, base_of, end_of};
 ghost use Rattle.cdcl_core.specs.Logged.{IsContingent, IsNew};
 ghost use Rattle.cdcl_core.specs.Analysis.{IsUnmarked, AreMarksListed, Supports, IsLearnt};
 ghost use Rattle.hint_chain.specs.Chains.{Hints};
 ghost use Rattle.cdcl_core.specs.Lines.{Adds, HeldOf, held_after};
-ghost use Rattle.cdcl_core.specs.Searching.{IsAddable, IsNamedBy, IsSolver, Leads, Moves, StepFits, Stops};
+ghost use Rattle.cdcl_core.specs.Searching.{IsAddable, IsNamedBy, IsPlaced, IsRight, IsSolver, Leads, Moves, StepFits, Stops};
 
 use crate::analysis::Analysis;
-use crate::learn::{assert_learnt, backtrack_to_root, negate_trail};
-use crate::learnts::Learnts;
+use crate::learn::{add_at, backtrack_to_root, negate_trail};
+use crate::learnts::{KEPT, Learnts};
 use crate::log::Log;
 use crate::minimizer::Minimizer;
 use crate::restarts::Restarts;
@@ -68,14 +68,19 @@ fn minimize(
     analysis.finish(core, l, minimizer.implied(), root, base)
 }
 
-// Counts a conflict, unless it is that of a probe: then the clause that is learnt replaces another. Returns its glue.
-fn count_learnt(
+// Counts a conflict, unless it is that of a probe: then the clause that is learnt replaces another. Returns its glue; a resolvent of an
+// elimination is always kept.
+fn glue_of_added(
     core: &Propagator,
     clause: &[Lit],
+    is_learnt: bool,
     restarts: &mut Restarts,
     learnts: &mut Learnts,
     vivifier: &mut Vivifier,
 ) -> u32 {
+    if !is_learnt {
+        return KEPT;
+    }
     if vivifier.is_probing() {
         return vivifier.replace(learnts, clause.len());
     }
@@ -90,7 +95,6 @@ impl Solver {
         requires levels { 0 < length self.old.core.limits }
         requires conflict { IsPending self.old.core (Some k) }
         ensures core { self.new.core ≡ self.old.core }
-        ensures given { self.new.given ≡ self.old.given }
         ensures frozen { self.new.frozen ≡ self.old.frozen }
         ensures pending { self.new.pending ≡ self.old.pending }
         ensures conflicts { self.new.conflicts ≡ self.old.conflicts }
@@ -136,7 +140,6 @@ impl Solver {
         requires levels { 0 < length self.old.core.limits }
         requires conflict { IsPending self.old.core (Some k) }
         ensures core { self.new.core ≡ self.old.core }
-        ensures given { self.new.given ≡ self.old.given }
         ensures frozen { self.new.frozen ≡ self.old.frozen }
         ensures pending { self.new.pending ≡ self.old.pending }
         ensures conflicts { self.new.conflicts ≡ self.old.conflicts }
@@ -152,18 +155,16 @@ impl Solver {
         Ok(first)
     }
 
-    // Adds the clause that was learnt, and backtracks to where it makes a literal true.
-    fn add_learnt(&mut self, first: Lit, glue: u32, id: u64) -> Result<(), AllocError>
+    // Adds a clause, at level 0 or where it makes this literal true.
+    fn add_learnt(&mut self, first: Option<Lit>, glue: u32, id: u64) -> Result<(), AllocError>
         requires frozen { self.old.frozen.vars ≡ self.old.core.vars }
         requires unmarked { IsUnmarked self.old.core.vars self.old.analysis.seen.items self.old.analysis.lower.items self.old.analysis.current.items }
         requires justified { IsJustified self.old.core }
-        requires levels { 0 < length self.old.core.limits }
-        requires learnt { IsLearnt self.old.core (base_of self.old.core) self.old.analysis.clause.items first }
+        requires placed { IsPlaced self.old.core self.old.analysis.clause.items first }
         requires room { self.old.conflicts < 2 ^ 64 - 1 }
         ensures solver { OnOk result (IsSolver self.new) }
         ensures vars { OnOk result (self.new.core.vars ≡ self.old.core.vars) }
         ensures slots { OnOk result (self.new.core.slots ≡ self.old.core.slots ++ Some self.old.analysis.clause.items ∷ []) }
-        ensures given { OnOk result (self.new.given ≡ self.old.given) }
         ensures frozen { OnOk result (self.new.frozen ≡ self.old.frozen) }
         ensures conflicts { OnOk result (self.new.conflicts ≡ self.old.conflicts + 1) }
         ensures deletions { OnOk result (self.new.deletions ≡ self.old.deletions) }
@@ -172,17 +173,16 @@ impl Solver {
             → IsNamedBy (held_after h (Adds self.old.analysis.clause.items id hints)) self.new) }
     {
         let clause = self.analysis.clause();
-        self.pending = assert_learnt(&mut self.core, &mut self.order, clause, first)?;
+        self.pending = add_at(&mut self.core, &mut self.order, clause, first)?;
         self.learnts.push(glue, clause.len())?;
         self.ids.push(id)?;
         self.conflicts += 1;
         Ok(())
     }
 
-    // Finds the hints of the clause that was learnt, where they are wanted.
+    // Finds the hints of a clause that is to be added, where they are wanted.
     fn find_hints(&mut self) -> Result<(), AllocError>
         requires addable { IsAddable self.old.core self.old.frozen self.old.analysis.clause.items }
-        ensures given { self.new.given ≡ self.old.given }
         ensures core { self.new.core ≡ self.old.core }
         ensures frozen { self.new.frozen ≡ self.old.frozen }
         ensures pending { self.new.pending ≡ self.old.pending }
@@ -204,16 +204,17 @@ impl Solver {
         )
     }
 
-    // Logs the clause that was learnt, and adds it.
-    fn add<L: Log>(&mut self, log: &mut L, first: Lit) -> Result<(), Stop>
+    // Logs the clause that was learnt or is a resolvent, and adds it, at level 0 or where it makes this literal true.
+    pub(crate) fn add<L: Log>(&mut self, log: &mut L, first: Option<Lit>) -> Result<(), Stop>
         requires frozen { self.old.frozen.vars ≡ self.old.core.vars }
         requires unmarked { IsUnmarked self.old.core.vars self.old.analysis.seen.items self.old.analysis.lower.items self.old.analysis.current.items }
         requires justified { IsJustified self.old.core }
-        requires levels { 0 < length self.old.core.limits }
-        requires learnt { IsLearnt self.old.core (base_of self.old.core) self.old.analysis.clause.items first }
+        requires placed { IsPlaced self.old.core self.old.analysis.clause.items first }
         requires addable { IsAddable self.old.core self.old.frozen self.old.analysis.clause.items }
         requires room { self.old.conflicts < 2 ^ 64 - 1 }
         ensures solver { OnOk result (IsSolver self.new) }
+        ensures vars { OnOk result (self.new.core.vars ≡ self.old.core.vars) }
+        ensures slots { OnOk result (self.new.core.slots ≡ self.old.core.slots ++ Some self.old.analysis.clause.items ∷ []) }
         ensures conflicts { OnOk result (self.new.conflicts ≡ self.old.conflicts + 1) }
         ensures leads { OnOk result (Leads L.takes L.faults self.old self.new log.old log.new) }
         ensures stopped { IfErr result (λ e. Stops L.takes L.fails L.faults self.old log.old log.new e) }
@@ -221,9 +222,10 @@ impl Solver {
         self.find_hints()?;
         let id = self.ids.next()?;
         let clause = self.analysis.clause();
-        let glue = count_learnt(
+        let glue = glue_of_added(
             &self.core,
             clause,
+            first.is_some(),
             &mut self.restarts,
             &mut self.learnts,
             &mut self.vivifier,
@@ -258,6 +260,7 @@ impl Solver {
         requires room { self.old.conflicts < 2 ^ 64 - 1 }
         ensures solver { OnOk result (IsSolver self.new) }
         ensures fits { IfOk result (λ s. StepFits L.takes L.fails L.faults self.old self.new log.old log.new s) }
+        ensures right { IfOk result (λ s. (f : FormulaOf) → IsRight f s) }
         ensures stopped { IfErr result (λ e. Stops L.takes L.fails L.faults self.old log.old log.new e) }
     {
         let first = self.analyze(k)?;
@@ -268,7 +271,7 @@ impl Solver {
             self.back_and_thaw(frozen)?;
             return Ok(Step::Thawed);
         }
-        self.add(log, first)?;
+        self.add(log, Some(first))?;
         Ok(Step::Learnt)
     }
 
@@ -280,6 +283,7 @@ impl Solver {
         requires room { self.old.conflicts < 2 ^ 64 - 1 }
         ensures solver { OnOk result (IsSolver self.new) }
         ensures fits { IfOk result (λ s. StepFits L.takes L.fails L.faults self.old self.new log.old log.new s) }
+        ensures right { IfOk result (λ s. (f : FormulaOf) → IsRight f s) }
         ensures stopped { IfErr result (λ e. Stops L.takes L.fails L.faults self.old log.old log.new e) }
     {
         self.note_facts(log)?;

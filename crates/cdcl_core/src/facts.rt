@@ -7,6 +7,17 @@ use crate::log::Log;
 use crate::solver::Solver;
 use crate::stop::Stop;
 use cnf_form::Lit;
+use unit_propagation::Propagator;
+
+// How many literals level 0 has.
+pub(crate) fn fixed_count(core: &Propagator) -> usize
+    ensures { result ≤ length core.now.trail }
+{
+    if core.levels() == 0 {
+        return core.trail().len();
+    }
+    core.limit(0)
+}
 
 impl Solver {
     // Logs a true literal as a unit clause, if the clause that made it true admits that together with facts.
@@ -14,7 +25,6 @@ impl Solver {
         requires solver { IsSolver self.old }
         requires on { Contains self.old.core.trail l }
         ensures core { self.new.core ≡ self.old.core }
-        ensures given { self.new.given ≡ self.old.given }
         ensures frozen { self.new.frozen ≡ self.old.frozen }
         ensures pending { self.new.pending ≡ self.old.pending }
         ensures conflicts { self.new.conflicts ≡ self.old.conflicts }
@@ -36,22 +46,11 @@ impl Solver {
         Ok(())
     }
 
-    // How many literals level 0 has.
-    fn fixed_count(&self) -> usize
-        ensures { result ≤ length self.now.core.trail }
-    {
-        if self.core.levels() == 0 {
-            return self.core.trail().len();
-        }
-        self.core.limit(0)
-    }
-
     // Logs the literals that are new at level 0 as unit clauses, where ids are wanted.
     pub(crate) fn note_facts<L: Log>(&mut self, log: &mut L) -> Result<(), Stop>
         requires solver { IsSolver self.old }
         ensures solver { OnOk result (IsSolver self.new) }
         ensures core { self.new.core ≡ self.old.core }
-        ensures given { self.new.given ≡ self.old.given }
         ensures frozen { self.new.frozen ≡ self.old.frozen }
         ensures pending { self.new.pending ≡ self.old.pending }
         ensures conflicts { self.new.conflicts ≡ self.old.conflicts }
@@ -63,7 +62,7 @@ impl Solver {
         if !self.ids.are_wanted() {
             return Ok(());
         }
-        let count = self.fixed_count();
+        let count = fixed_count(&self.core);
         for place in self.noted..count {
             let l = self.core.trail()[place];
             self.note_fact(log, l)?;

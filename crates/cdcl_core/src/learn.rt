@@ -4,6 +4,7 @@ ghost use Rattle.std.specs.Prelude.{◌≡◌, ◌≢◌, ◌<◌, ◌≤◌, �
 ghost use Rattle.cnf_form.specs.Cnf.{LitOf, negate, ClauseWithin};
 ghost use Rattle.cdcl_core.specs.Levels.{IsJustified, IsPending, base_of};
 ghost use Rattle.cdcl_core.specs.Analysis.{IsLearnt, IsLastOf, ComesLast};
+ghost use Rattle.cdcl_core.specs.Searching.{IsPlaced};
 
 use crate::load::add_at_root;
 use cnf_form::Lit;
@@ -197,4 +198,27 @@ fn backtrack_and_assert(
     let falsified = core.assert_clause(clause, first, second)?;
     core.clauses_are_within();
     Ok(falsified)
+}
+
+// Adds a clause: at level 0, or where it makes this literal true. Returns the falsified clause, if there is one above level 0.
+pub(crate) fn add_at(
+    core: &mut Propagator,
+    order: &mut Order,
+    clause: &[Lit],
+    first: Option<Lit>,
+) -> Result<Option<u32>, AllocError>
+    requires justified { IsJustified core.old }
+    requires placed { IsPlaced core.old clause.now first }
+    ensures vars { OnOk result (core.new.vars ≡ core.old.vars) }
+    ensures slots { OnOk result (core.new.slots ≡ core.old.slots ++ Some clause.now ∷ []) }
+    ensures justified { OnOk result (IsJustified core.new) }
+    ensures pending { IfOk result (λ o. IsPending core.new o) }
+{
+    match first {
+        Some(first) => assert_learnt(core, order, clause, first),
+        None => {
+            add_at_root(core, clause)?;
+            Ok(None)
+        }
+    }
 }

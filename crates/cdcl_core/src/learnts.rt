@@ -19,6 +19,9 @@ const GOOD_GLUE: u32 = 3;
 // In a long search only clauses of this glue or less are kept.
 const BEST_GLUE: u32 = 2;
 
+// A clause of this glue is never to go, since clauses of variables that were eliminated follow from it and others like it.
+pub(crate) const KEPT: u32 = 0;
+
 // A clause up to this glue is in the second tier: it is kept through two reductions after the last conflict that rested on it, others
 // through one (Chanseok Oh, 2015).
 const MIDDLE_GLUE: u32 = 6;
@@ -45,8 +48,9 @@ struct Candidate {
 }
 
 // What is known of the learnt clauses: the number of the first, and the glue of each from there on, and through how many reductions it is
-// kept since a conflict rested on it. The sums are of literals: of the formula, and of the learnt clauses left at the last collection and
-// those learnt or thawed since.
+// kept since a conflict rested on it. Those before the first one are never to go. The first learnt ones, as many as `fresh`, were listed
+// to be vivified; `round` counts how often clauses were deleted or got new numbers. The sums are of literals: of the clauses before the
+// first learnt one, and of the learnt clauses left at the last collection and those learnt or thawed since.
 #[derive(Drop)]
 pub(crate) struct Learnts {
     first: usize,
@@ -88,9 +92,33 @@ impl Learnts {
         Ok(())
     }
 
-    // Adds a thawed clause of this many literals: it is worth keeping for a while.
-    pub fn push_thawed(&mut self, length: usize) -> Result<(), AllocError> {
-        self.push(GOOD_GLUE, length)
+    // Adds a thawed clause of this many literals: it is worth keeping for a while, or never to go.
+    pub fn push_thawed(&mut self, length: usize, kept: bool) -> Result<(), AllocError> {
+        self.push(if kept { KEPT } else { GOOD_GLUE }, length)
+    }
+
+    // The number of the first learnt clause.
+    pub fn first(&self) -> usize {
+        self.first
+    }
+
+    // Whether a clause is never to go.
+    pub fn is_kept(&self, number: usize) -> bool {
+        if number < self.first {
+            return true;
+        }
+        match self.glues.get(number - self.first) {
+            Some(glue) => *glue == KEPT,
+            None => false,
+        }
+    }
+
+    // A clause is never to go from now on.
+    pub fn keep(&mut self, number: u32) {
+        let place = (number as usize).wrapping_sub(self.first);
+        if place < self.glues.len() {
+            self.glues[place] = KEPT;
+        }
     }
 
     // Conflicts rested on these clauses: the glue of one may have fallen.
@@ -125,7 +153,7 @@ impl Learnts {
         true
     }
 
-    // How many reductions there were.
+    // How often clauses were deleted or got new numbers.
     pub fn round(&self) -> u64 {
         self.round
     }
@@ -141,7 +169,7 @@ impl Learnts {
             if number >= core.len() {
                 break;
             }
-            if self.glues[place] <= MIDDLE_GLUE {
+            if self.glues[place] != KEPT && self.glues[place] <= MIDDLE_GLUE {
                 numbers.push(number as u32)?;
             }
         }
@@ -223,27 +251,37 @@ impl Learnts {
         self.learnt.saturating_sub(left) > self.given.saturating_add(left) / 2
     }
 
-    // The clauses that are left get new numbers, in the same order.
+    // The clauses that are left get new numbers, in the same order. Those that are never to go come before the first learnt one as far as
+    // they did or follow each other there.
     pub fn renumber(&mut self, alloc: Global, core: &Propagator) -> Result<(), AllocError> {
         let mut glues = Vec::new(alloc);
         let mut used = Vec::new(alloc);
-        self.learnt = 0;
+        let mut first: usize = 0;
         let mut fresh: usize = 0;
-        let first = self.first;
-        for number in first..core.len() {
-            let place = number - first;
+        self.given = 0;
+        self.learnt = 0;
+        for number in 0..core.len() {
+            let Some(clause) = core.clause(number as u32) else {
+                continue;
+            };
+            if glues.is_empty() && self.is_kept(number) {
+                first = first.saturating_add(1);
+                self.given = self.given.saturating_add(clause.len());
+                continue;
+            }
+            let place = number.wrapping_sub(self.first);
             if place >= self.glues.len() || place >= self.used.len() {
                 break;
             }
-            if let Some(clause) = core.clause(number as u32) {
-                glues.push(self.glues[place])?;
-                used.push(self.used[place])?;
-                if place < self.fresh {
-                    fresh = used.len();
-                }
-                self.learnt = self.learnt.saturating_add(clause.len());
+            glues.push(self.glues[place])?;
+            used.push(self.used[place])?;
+            if place < self.fresh {
+                fresh = used.len();
             }
+            self.learnt = self.learnt.saturating_add(clause.len());
         }
+        self.first = first;
+        self.round = self.round.saturating_add(1);
         self.glues = glues;
         self.used = used;
         self.fresh = fresh;

@@ -4,6 +4,9 @@
 mod analysis;
 mod choose;
 mod conflict;
+mod eliminate;
+mod eliminator;
+mod extend;
 mod facts;
 mod laws;
 mod learn;
@@ -11,6 +14,7 @@ mod learnts;
 mod load;
 mod log;
 mod minimizer;
+mod occurrences;
 mod reduce;
 mod refute;
 mod restarts;

@@ -4,7 +4,6 @@ ghost use Rattle.std.specs.Prelude.{◌≡◌, ◌++◌, ◌∷◌, [], map, IfO
 ghost use Rattle.cnf_form.specs.Cnf.{ClauseWithin};
 ghost use Rattle.unit_propagation.specs.Propagator.{clauses_of};
 ghost use Rattle.cdcl_core.specs.Levels.{IsJustified, IsPending};
-ghost use Rattle.cdcl_core.specs.Searching.{StandFirst};
 
 use cnf_form::{Formula, Lit};
 use std::alloc::{AllocError, Global};
@@ -53,7 +52,6 @@ pub(crate) fn load(alloc: Global, formula: &Formula) -> Result<Propagator, Alloc
     ensures vars { IfOk result (λ p. p.vars ≡ formula.now.vars) }
     ensures clauses { IfOk result (λ p. clauses_of p.slots ≡ formula.now.clauses) }
     ensures slots { IfOk result (λ p. p.slots ≡ map Some formula.now.clauses) }
-    ensures originals { IfOk result (λ p. StandFirst formula.now.clauses p.slots) }
     ensures level { IfOk result (λ p. p.limits ≡ []) }
     ensures justified { IfOk result (λ p. IsJustified p) }
     ensures pending { IfOk result (λ p. IsPending p None) }

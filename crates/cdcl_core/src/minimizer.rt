@@ -48,6 +48,11 @@ impl Minimizer {
         })
     }
 
+    // No literal is to be removed.
+    pub fn clear(&mut self) {
+        self.implied.clear();
+    }
+
     // The literals that follow from marked ones, each after those that it follows from.
     pub fn implied(&self) -> &[Lit] {
         self.implied.as_slice()

@@ -1,4 +1,4 @@
-// Learnt clauses are deleted or frozen at level 0 (freezing: Audemard, Lagniez, Mazure and Saïs, 2011).
+// Learnt clauses are deleted, and clauses are frozen, at level 0 (freezing: Audemard, Lagniez, Mazure and Saïs, 2011).
 
 ghost use Rattle.std.specs.Prelude.{◌≡◌, ◌+◌, ◌*◌, ◌-◌, ◌<◌, ◌≤◌, ◌^◌, [], true, false, length, Contains, IsTrue, IfErr, OnOk, None};
 ghost use Rattle.cnf_form.specs.Cnf.{ClauseWithin, LitOf};
@@ -7,6 +7,7 @@ ghost use Rattle.unit_propagation.specs.Propagator.{clauses_of};
 ghost use Rattle.cdcl_core.specs.Searching.{IsAtRest, IsOf, IsSolver, Leads, Moves, Reduces, Stops, present_of};
 ghost use Rattle.cdcl_core.specs.Present.{SameOrders};
 
+use crate::eliminator::is_passed;
 use crate::learn::restart;
 use crate::learnts::is_long;
 use crate::log::Log;
@@ -65,7 +66,6 @@ impl Solver {
     fn delete<L: Log>(&mut self, log: &mut L, k: u32) -> Result<(), Stop>
         requires solver { IsSolver self.old }
         requires rest { IsAtRest self.old }
-        requires learnt { self.old.given ≤ k }
         requires clause { k < length self.old.core.slots }
         requires few { 2 * (self.old.deletions + 1) ≤ self.old.conflicts }
         ensures reduces { OnOk result (Reduces L.takes L.faults self.old self.new log.old log.new) }
@@ -91,10 +91,9 @@ impl Solver {
     }
 
     // Freezes a watched clause, unless it is empty or a literal of it is true.
-    fn freeze(&mut self, k: u32) -> Result<(), AllocError>
+    pub(crate) fn freeze(&mut self, k: u32) -> Result<(), AllocError>
         requires solver { IsSolver self.old }
         requires rest { IsAtRest self.old }
-        requires learnt { self.old.given ≤ k }
         requires clause { k < length self.old.core.slots }
         ensures solver { OnOk result (IsSolver self.new) }
         ensures rest { OnOk result (IsAtRest self.new) }
@@ -120,7 +119,7 @@ impl Solver {
         ensures reduces { OnOk result (Reduces L.takes L.faults self.old self.new log.old log.new) }
         ensures stopped { IfErr result (λ e. Stops L.takes L.fails L.faults self.old log.old log.new e) }
     {
-        if (k as usize) < self.given || k as usize >= self.core.len() {
+        if (k as usize) < self.learnts.first() || k as usize >= self.core.len() {
             return Ok(());
         }
         if may_delete(self.conflicts, self.deletions) {
@@ -145,7 +144,8 @@ impl Solver {
         Ok(())
     }
 
-    // Deletes a frozen clause, unless a literal of it is true or the deletions would be more than half of the additions.
+    // Deletes a frozen clause, unless a literal of it is true, a variable of it was eliminated, or the deletions would be more than half of
+    // the additions.
     fn delete_frozen<L: Log>(&mut self, log: &mut L, k: u32) -> Result<(), Stop>
         requires solver { IsSolver self.old }
         requires rest { IsAtRest self.old }
@@ -160,6 +160,9 @@ impl Solver {
         let Some(clause) = self.frozen.clause(k) else {
             return Ok(());
         };
+        if is_passed(&self.order, clause) {
+            return Ok(());
+        }
         if !is_loose(&self.core, clause) {
             return Ok(());
         }
@@ -195,11 +198,20 @@ impl Solver {
         requires rest { IsAtRest self.old }
         ensures solver { OnOk result (IsSolver self.new) }
         ensures moves { OnOk result (Moves self.old self.new) }
-        ensures rest { OnOk result (IsAtRest self.new) }
     {
         if !self.learnts.is_sparse(&self.core) {
             return Ok(());
         }
+        self.collect()
+    }
+
+    // Gives back the memory of clauses that were deleted or frozen: the others get new numbers.
+    pub(crate) fn collect(&mut self) -> Result<(), AllocError>
+        requires solver { IsSolver self.old }
+        requires rest { IsAtRest self.old }
+        ensures solver { OnOk result (IsSolver self.new) }
+        ensures moves { OnOk result (Moves self.old self.new) }
+    {
         self.learnts.renumber(self.alloc, &self.core)?;
         self.ids.collect(&self.core)?;
         self.core.collect()?;
@@ -235,7 +247,7 @@ impl Solver {
     }
 
     // Restarts, and thaws the frozen clauses at which something is left to do. Returns whether nothing is left to do at any then.
-    fn come_to_rest(&mut self) -> Result<bool, AllocError>
+    pub(crate) fn come_to_rest(&mut self) -> Result<bool, AllocError>
         requires solver { IsSolver self.old }
         requires conflict { self.old.core.conflict ≡ false }
         ensures solver { OnOk result (IsSolver self.new) }

@@ -1,15 +1,16 @@
 // A falsified clause at level 0.
 
-ghost use Rattle.std.specs.Prelude.{◌≡◌, [], IsTrue, IfOk, IfErr, OnOk};
+ghost use Rattle.std.specs.Prelude.{◌≡◌, [], IsTrue, IfErr, OnOk};
 ghost use Rattle.cnf_form.specs.Cnf.{IsAdmitted};
 ghost use Rattle.unit_propagation.specs.Propagation.{HasFalsified};
 ghost use Rattle.unit_propagation.specs.Propagator.{clauses_of};
 ghost use Rattle.hint_chain.specs.Chains.{Hints};
 ghost use Rattle.cdcl_core.specs.Searching.{IsSolver, StepFits, Stops};
+ghost use Rattle.cdcl_core.specs.declared.solver.Solved.TheVariants.{Unsat};
 ghost use Rattle.cdcl_core.specs.declared.solver.Step.TheVariants.{Answered};
 
 use crate::log::Log;
-use crate::solver::{Solved, Solver};
+use crate::solver::Solver;
 use crate::stop::Stop;
 use cnf_form::Lit;
 use std::alloc::AllocError;
@@ -41,7 +42,6 @@ impl Solver {
     // Finds the hints of the empty clause, where they are wanted.
     fn find_last_hints(&mut self) -> Result<(), AllocError>
         requires admitted { IsAdmitted (clauses_of self.old.core.slots) [] }
-        ensures given { self.new.given ≡ self.old.given }
         ensures core { self.new.core ≡ self.old.core }
         ensures frozen { self.new.frozen ≡ self.old.frozen }
         ensures pending { self.new.pending ≡ self.old.pending }
@@ -59,11 +59,11 @@ impl Solver {
     }
 
     // Logs the empty clause.
-    fn end_empty<L: Log>(&mut self, log: &mut L) -> Result<Solved, Stop>
+    fn end_empty<L: Log>(&mut self, log: &mut L) -> Result<(), Stop>
         requires solver { IsSolver self.old }
         requires admitted { IsAdmitted (clauses_of self.old.core.slots) [] }
         ensures solver { OnOk result (IsSolver self.new) }
-        ensures fits { IfOk result (λ s. StepFits L.takes L.fails L.faults self.old self.new log.old log.new (Answered s)) }
+        ensures fits { OnOk result (StepFits L.takes L.fails L.faults self.old self.new log.old log.new (Answered Unsat)) }
         ensures stopped { IfErr result (λ e. Stops L.takes L.fails L.faults self.old log.old log.new e) }
     {
         self.find_last_hints()?;
@@ -71,15 +71,15 @@ impl Solver {
         if log.clause(&[], id, self.chain.hints()).is_err() {
             return Err(Stop::Failed);
         }
-        Ok(Solved::Unsat)
+        Ok(())
     }
 
     // Notes the literals of level 0, and then logs the empty clause.
-    pub(crate) fn refute<L: Log>(&mut self, log: &mut L) -> Result<Solved, Stop>
+    pub(crate) fn refute<L: Log>(&mut self, log: &mut L) -> Result<(), Stop>
         requires solver { IsSolver self.old }
         requires admitted { IsAdmitted (clauses_of self.old.core.slots) [] }
         ensures solver { OnOk result (IsSolver self.new) }
-        ensures fits { IfOk result (λ s. StepFits L.takes L.fails L.faults self.old self.new log.old log.new (Answered s)) }
+        ensures fits { OnOk result (StepFits L.takes L.fails L.faults self.old self.new log.old log.new (Answered Unsat)) }
         ensures stopped { IfErr result (λ e. Stops L.takes L.fails L.faults self.old log.old log.new e) }
     {
         self.note_facts(log)?;

@@ -17,6 +17,9 @@ use decision_order::{Order, rephase_by_local_search};
 use std::alloc::AllocError;
 use unit_propagation::Propagator;
 
+// Between one look at all frozen clauses and the next there is one conflict for this many of them.
+const FROZEN_A_CONFLICT: usize = 1000;
+
 // What is found: values for all variables, a falsified clause at level 0, or one above.
 pub(crate) enum Found {
     Assigned,
@@ -68,7 +71,6 @@ fn decide_on(
 impl Solver {
     // Whether the search is to begin again at level 0: also after a lucky guess or a probe, and where local search is to begin.
     fn is_restart_due(&mut self) -> bool
-        ensures given { self.new.given ≡ self.old.given }
         ensures core { self.new.core ≡ self.old.core }
         ensures frozen { self.new.frozen ≡ self.old.frozen }
         ensures pending { self.new.pending ≡ self.old.pending }
@@ -87,7 +89,7 @@ impl Solver {
             || self.order.wants_first_local_search()
     }
 
-    // Thaws the frozen clauses at which something is left to do, where level 0 has grown.
+    // Thaws the frozen clauses at which something is left to do, where level 0 has grown, and for long enough where they are many.
     fn settle_if_grown(&mut self) -> Result<(), AllocError>
         requires solver { IsSolver self.old }
         requires level { self.old.core.limits ≡ [] }
@@ -97,16 +99,18 @@ impl Solver {
         ensures few { OnOk result (length (clauses_of self.new.frozen.slots) ≤ length (clauses_of self.old.frozen.slots)) }
     {
         let fixed = self.core.trail().len();
-        if fixed <= self.fixed {
+        if fixed <= self.fixed || self.conflicts < self.settle_due {
             return Ok(());
         }
         self.fixed = fixed;
+        let wait = (self.frozen.len() / FROZEN_A_CONFLICT) as u64;
+        self.settle_due = self.conflicts.saturating_add(wait);
         self.pending = None;
         self.thaw_unsettled()
     }
 
     // Restarts where it is time to, unless a clause is falsified.
-    pub(crate) fn restart_if_due(&mut self, formula: &Formula) -> Result<(), AllocError>
+    pub(crate) fn restart_if_due(&mut self) -> Result<(), AllocError>
         requires solver { IsSolver self.old }
         ensures solver { OnOk result (IsSolver self.new) }
         ensures moves { OnOk result (Moves self.old self.new) }
@@ -120,7 +124,7 @@ impl Solver {
         rephase_by_local_search(
             self.alloc,
             &self.core,
-            formula.clauses().len(),
+            self.learnts.first(),
             &mut self.order,
         )?;
         self.settle_if_grown()

@@ -1,18 +1,15 @@
 // The solver: conflict-driven clause learning (Marques-Silva and Sakallah, 1996), with two watched literals (Moskewicz and others,
 // 2001) in the crate unit_propagation.
 
-ghost use Rattle.std.specs.Prelude.{◌≡◌, ◌+◌, ◌-◌, ◌^◌, ◌<◌, ◌≤◌, [], true, length, Contains, IfOk, IfErr, IfSome, IfNone, OnOk, OnErr, Ok, Err};
-ghost use Rattle.cnf_form.specs.Cnf.{LitOf, Satisfies, lit_in};
-ghost use Rattle.unit_propagation.specs.Propagator.{clauses_of};
+ghost use Rattle.std.specs.Prelude.{◌≡◌, ◌+◌, ◌-◌, ◌^◌, ◌<◌, ◌≤◌, [], length, IfOk, IfErr, IfSome, IfNone, OnOk, OnErr, Ok, Err};
 ghost use Rattle.sby_edge.specs.Cause.{Rose};
-ghost use Rattle.cdcl_core.specs.Levels.{FoundFits};
 ghost use Rattle.cdcl_core.specs.Lines.{held_first};
-ghost use Rattle.cdcl_core.specs.declared.search.Found.TheVariants.{Assigned};
-ghost use Rattle.cdcl_core.specs.Searching.{EndsBy, HasLogged, IsNamedBy, IsOf, IsSolver, Leads, StepFits, Stops, present_of};
-ghost use Rattle.cdcl_core.specs.Solving.{IsStopped, SolvedFits, valued};
+ghost use Rattle.cdcl_core.specs.Searching.{AreRight, EndsBy, HasLogged, IsNamedBy, IsOf, IsRight, IsSolver, StepFits, Stops, present_of};
+ghost use Rattle.cdcl_core.specs.Solving.{IsStopped, SolvedFits};
 
 use crate::analysis::Analysis;
 use crate::choose::has_goal;
+use crate::eliminator::Eliminator;
 use crate::learnts::Learnts;
 use crate::load::load;
 use crate::log::Log;
@@ -21,7 +18,7 @@ use crate::restarts::Restarts;
 use crate::search::Found;
 use crate::stop::Stop;
 use crate::vivifier::Vivifier;
-use cnf_form::{Formula, Lit};
+use cnf_form::Formula;
 use decision_order::Order;
 use frozen_clauses::Frozen;
 use hint_chain::{Chain, Ids};
@@ -49,15 +46,16 @@ pub(crate) enum Step {
     Thawed,
 }
 
-// What a search stands on: the watched clauses with the trail, of which this many, the formula's, come first; the frozen clauses; the
-// number of a falsified clause; how many clauses were logged, one for each conflict, and how many of them were deleted. The rest
-// chooses, and nothing is promised of it; `fixed` is how many literals level 0 had when frozen clauses were last thawed, and `noted`
-// how many of them were noted as facts. Where the log wants hints, `ids` has the ids of all clauses, and `chain` finds hints.
+// What a search stands on: the watched clauses with the trail; the frozen clauses; the number of a falsified clause; how many clauses
+// were logged, one for each conflict and each resolvent, and how many of them were deleted. Where the log wants hints, `ids` has the
+// ids of all clauses, and `chain` finds hints. The rest chooses, and nothing is promised of it: `vivifier` says which learnt clauses are
+// to be made shorter, and `eliminator` which variables are eliminated, by which resolvents; `fixed` is how many literals level 0 had
+// when frozen clauses were last thawed, which is done again after `settle_due` conflicts, and `noted` how many of them were noted as
+// facts.
 #[derive(Drop)]
 pub(crate) struct Solver {
     pub(crate) alloc: Global,
     pub(crate) core: Propagator,
-    pub(crate) given: usize,
     pub(crate) frozen: Frozen,
     pub(crate) pending: Option<u32>,
     pub(crate) conflicts: u64,
@@ -68,37 +66,12 @@ pub(crate) struct Solver {
     pub(crate) restarts: Restarts,
     pub(crate) learnts: Learnts,
     pub(crate) fixed: usize,
+    pub(crate) settle_due: u64,
     pub(crate) ids: Ids,
     pub(crate) chain: Chain,
     pub(crate) noted: usize,
     pub(crate) vivifier: Vivifier,
-}
-
-// The values of all variables, that of each at its number.
-fn values_of(alloc: Global, core: &Propagator) -> Result<Vec<bool>, AllocError>
-    ensures sized { IfOk result (λ v. length v.items ≡ core.now.vars + 1) }
-    ensures values { IfOk result (λ v. (l : LitOf) → Contains core.now.trail l → 0 < l.var → lit_in (valued v.items) l ≡ true) }
-{
-    let mut values = Vec::new(alloc);
-    values.push(false)?;
-    let _consistent = core.conflict();
-    let _below = core.trail().len();
-    for place in 0..core.vars() {
-        values.push(core.is_true(Lit::new(place + 1, false)))?;
-    }
-    Ok(values)
-}
-
-// Values that satisfy the clauses, where all variables have one.
-fn satisfying(alloc: Global, core: &Propagator) -> Result<Vec<bool>, AllocError>
-    requires { FoundFits core.now Assigned }
-    ensures sized { IfOk result (λ v. length v.items ≡ core.now.vars + 1) }
-    ensures satisfies { IfOk result (λ v. Satisfies (valued v.items) (clauses_of core.now.slots)) }
-{
-    core.clauses_are_within();
-    let _fixpoint = core.conflict();
-    let values = values_of(alloc, core)?;
-    Ok(values)
+    pub(crate) eliminator: Eliminator,
 }
 
 impl Solver {
@@ -119,11 +92,11 @@ impl Solver {
         let minimizer = Minimizer::new(alloc, vars)?;
         let frozen = Frozen::new(alloc, vars)?;
         let vivifier = Vivifier::new(alloc, vars)?;
+        let eliminator = Eliminator::new(alloc, vars)?;
         let ids = Ids::new(alloc, hinted, vars, formula.clauses().len())?;
         Ok(Solver {
             alloc,
             core: load(alloc, formula)?,
-            given: formula.clauses().len(),
             frozen,
             pending: None,
             conflicts: 0,
@@ -134,10 +107,12 @@ impl Solver {
             restarts,
             learnts: Learnts::new(alloc, formula),
             fixed: 0,
+            settle_due: 0,
             ids,
             chain: Chain::new(alloc),
             noted: 0,
             vivifier,
+            eliminator,
         })
     }
 
@@ -147,17 +122,18 @@ impl Solver {
         requires room { self.old.conflicts < 2 ^ 64 - 1 }
         ensures solver { OnOk result (IsSolver self.new) }
         ensures fits { IfOk result (λ s. StepFits L.takes L.fails L.faults self.old self.new log.old log.new s) }
+        ensures right { IfOk result (λ s. IsRight formula.now s) }
         ensures stopped { IfErr result (λ e. Stops L.takes L.fails L.faults self.old log.old log.new e) }
     {
-        self.restart_if_due(formula)?;
+        self.restart_if_due()?;
         match self.find(formula)? {
-            Found::Assigned => {
-                let values = satisfying(self.alloc, &self.core)?;
-                Ok(Step::Answered(Solved::Sat(values)))
-            }
+            Found::Assigned => match self.answer(formula)? {
+                Some(values) => Ok(Step::Answered(Solved::Sat(values))),
+                None => Ok(Step::Thawed),
+            },
             Found::Refuted => {
-                let solved = self.refute(log)?;
-                Ok(Step::Answered(solved))
+                self.refute(log)?;
+                Ok(Step::Answered(Solved::Unsat))
             }
             Found::Falsified(k) => self.learn(log, k),
         }
@@ -173,6 +149,7 @@ impl Solver {
         requires room { self.old.conflicts < 2 ^ 64 - 1 }
         ensures solver { OnOk result (IsSolver self.new) }
         ensures answered { IfOk result (λ o. IfSome o (λ s. StepFits L.takes L.fails L.faults self.old self.new log.old log.new (Step.Answered s))) }
+        ensures right { IfOk result (λ o. IfSome o (λ s. AreRight formula.now s)) }
         ensures learnt { IfOk result (λ o. IfNone o (StepFits L.takes L.fails L.faults self.old self.new log.old log.new Step.Learnt)) }
         ensures stopped { IfErr result (λ e. Stops L.takes L.fails L.faults self.old log.old log.new e) }
     {
@@ -202,6 +179,7 @@ impl Solver {
     {
         while self.conflicts < budget {
             self.reduce_if_due(log)?;
+            self.eliminate_if_due(formula, budget, log)?;
             if let Some(solved) = self.next_conflict(formula, log)? {
                 return Ok(solved);
             }
@@ -210,8 +188,8 @@ impl Solver {
     }
 }
 
-/// Searches for values that satisfy the formula, and logs what it learns, until as many conflicts above level 0 were counted
-/// as the budget has. Each logged clause is admitted by those that are present, none of those is a subset of it, and it is no
+/// Searches for values that satisfy the formula, and logs what it learns, until as many conflicts above level 0 and resolvents were
+/// counted as the budget has. Each logged clause is admitted by those that are present, none of those is a subset of it, and it is no
 /// tautology; it has at most as many literals as there are variables. Where the log wants hints, each line's hints admit its clause,
 /// and each literal of level 0 is noted as a fact, which is no conflict. An answer that there are no values ends with the empty
 /// clause. An error is out of memory; what was logged until then is the beginning of such a search.

@@ -6,6 +6,7 @@ ghost use Rattle.unit_propagation.specs.Propagation.{IsSettled, IsFixpoint};
 ghost use Rattle.unit_propagation.specs.Propagator.{clauses_of, slot_at};
 ghost use Rattle.cdcl_core.specs.Searching.{IsSolver, Moves};
 
+use crate::eliminator::is_passed;
 use crate::load::add_at_root;
 use crate::solver::Solver;
 use cnf_form::Lit;
@@ -86,7 +87,8 @@ impl Solver {
             return Ok(());
         };
         add_at_root(&mut self.core, clause)?;
-        self.learnts.push_thawed(clause.len())?;
+        let kept = is_passed(&self.order, clause);
+        self.learnts.push_thawed(clause.len(), kept)?;
         self.ids.thaw(k)?;
         self.frozen.remove_clause(k);
         Ok(())

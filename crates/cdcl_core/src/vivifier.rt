@@ -1,5 +1,6 @@
 // Which learnt clauses are vivified, and in which order the negations of their literals are decided. Nothing is promised of it.
 
+use crate::facts::fixed_count;
 use crate::learnts::Learnts;
 use cnf_form::Lit;
 use std::alloc::{AllocError, Global};
@@ -48,14 +49,6 @@ pub(crate) struct Vivifier {
     kept: usize,
     spent: u64,
     granted: u64,
-}
-
-// How many literals level 0 has.
-fn root_of(core: &Propagator) -> usize {
-    if core.levels() == 0 {
-        return core.trail().len();
-    }
-    core.limit(0)
 }
 
 // Whether a literal is true at level 0, which has this many.
@@ -222,7 +215,7 @@ impl Vivifier {
     fn plan_for(&mut self, core: &Propagator, clause: &[Lit]) -> Result<bool, AllocError> {
         self.ranked.clear();
         self.plan.clear();
-        let root = root_of(core);
+        let root = fixed_count(core);
         for l in clause {
             let l = *l;
             if is_fixed(core, l, root) {

@@ -6,6 +6,7 @@ mod goals;
 mod local_search;
 mod lucky;
 mod order;
+mod passed;
 mod queue;
 mod rephasing;
 mod unassigned;

@@ -6,6 +6,7 @@ ghost use Rattle.std.specs.Prelude.{◌<◌};
 
 use crate::goals::Goals;
 use crate::lucky::Lucky;
+use crate::passed::Passed;
 use crate::queue::Queue;
 use crate::rephasing::Rephasing;
 use cnf_form::Lit;
@@ -29,6 +30,7 @@ pub struct Order {
     phases: Vec<bool>,
     queue: Queue,
     has_queue: bool,
+    passed: Passed,
     step: u64,
     pub goals: Goals,
     pub lucky: Lucky,
@@ -61,6 +63,7 @@ impl Order {
             phases,
             queue: Queue::new(alloc, vars)?,
             has_queue: has_goal,
+            passed: Passed::new(alloc, vars)?,
             step: 1 << 20,
             goals: Goals::new(has_goal),
             lucky: Lucky::new(has_goal),
@@ -242,11 +245,27 @@ impl Order {
         top
     }
 
+    /// A variable is passed over from now on: it is decided after all others.
+    pub fn pass_over(&mut self, var: u32) -> Result<(), AllocError> {
+        self.passed.push(var)
+    }
+
+    /// Whether a variable is passed over.
+    pub fn is_passed(&self, var: u32) -> bool {
+        self.passed.has(var)
+    }
+
+    /// The unassigned variable that comes first of those that are passed over, or 0.
+    pub fn next_passed(&mut self, core: &Propagator) -> u32 {
+        self.passed.next(core)
+    }
+
     /// A variable is unassigned again: keeps the phase that it had, unless that was guessed or of a probe.
     pub fn unassign(&mut self, var: u32, phase: bool) -> Result<(), AllocError> {
         let index = var as usize;
         self.rephasing.count_unassigned();
         self.queue.unassign(var);
+        self.passed.unassign(var);
         if index < self.phases.len() && !self.probing && !self.lucky.is_left() {
             self.phases[index] = phase;
         }
@@ -270,7 +289,7 @@ impl Order {
         if !self.is_by_queue() {
             return 0;
         }
-        self.queue.front(core)
+        self.queue.front(core, &self.passed.marks)
     }
 
     /// A conflict rested on a variable, which has a value.

@@ -4,6 +4,7 @@
 ghost use Rattle.std.specs.Prelude.{◌<◌};
 
 use crate::cover::{at, set};
+use crate::passed::is_marked;
 use crate::unassigned::is_unassigned;
 use cnf_form::Lit;
 use std::alloc::{AllocError, Global};
@@ -17,7 +18,7 @@ struct Moved {
 }
 
 // The variables in a list, from the one that was moved first to the one that was moved last: by variable the one before it and the one
-// after it, or 0, and when it was moved. Those after `next` have values.
+// after it, or 0, and when it was moved. Those after `next` have values, or are passed over.
 #[derive(Drop)]
 pub(crate) struct Queue {
     before: Vec<u32>,
@@ -71,14 +72,14 @@ impl Queue {
         }
     }
 
-    // The unassigned variable that was moved last, or 0.
-    pub fn front(&mut self, core: &Propagator) -> u32 {
+    // The unassigned variable that was moved last and isn't passed over, or 0.
+    pub fn front(&mut self, core: &Propagator, passed: &[bool]) -> u32 {
         let mut var = self.next;
         for _ in 0..core.vars() {
             if var == 0 || var > core.vars() {
                 break;
             }
-            if is_unassigned(core, Lit::new(var, false)) {
+            if !is_marked(passed, var) && is_unassigned(core, Lit::new(var, false)) {
                 self.next = var;
                 return var;
             }

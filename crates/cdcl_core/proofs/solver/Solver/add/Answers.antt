@@ -1,4 +1,4 @@
-use Rattle.std.proofs.Common.{◌≡◌, ◌+◌, ◌<◌, ◌≤◌, ◌^◌, ◌∷◌, [], ◌++◌, length, rules, refl, sym, ◌∙◌, ap, subst}
+use Rattle.std.proofs.Common.{◌≡◌, ◌+◌, ◌<◌, ◌≤◌, ◌^◌, ◌∷◌, [], ◌++◌, length, rules, sym, ◌∙◌, ap, subst}
 use Rattle.std.specs.Prelude.{IsTrue, Some}
 use Rattle.std.proofs.lemmas.Result.{err_from_is_err_and}
 use Rattle.sby_edge.specs.Cause.{Rose}
@@ -7,7 +7,7 @@ use Rattle.frozen_clauses.specs.Frozen.{FrozenOf}
 use Rattle.hint_chain.specs.Ids.{IdsOf}
 use Rattle.hint_chain.specs.Chains.{Hints}
 use Rattle.cdcl_core.specs.Lines.{Adds, AreFew, HeldOf, held_after}
-use Rattle.cdcl_core.specs.Searching.{IsNamedBy}
+use Rattle.cdcl_core.specs.Searching.{IsNamedBy, IsPlaced}
 use Rattle.cdcl_core.specs.declared.analysis.Analysis.{Analysis}
 use Rattle.cdcl_core.proofs.Steps.{IsHintedFor, hinted_by, named_as, leads_added, stops_added, fails_added}
 use Rattle.cdcl_core.proofs.solver.Solver.add.Goals as goal
@@ -74,7 +74,23 @@ returns-clause-leads g c =
     (p.named k hints i.above (named_as s mid k (ap (λ (x : PropagatorOf). x.slots) e.core) (ap (λ (x : FrozenOf). x.slots) e.frozen) e.ids w)) in
     leads_added g.L.Log.takes g.L.Log.faults s new cl id hints a b c.requires.addable few by (subst (λ z. g.L.Log.takes a (Adds z id hints) b) is taken) later (p.vars ∙ ap (λ (x : PropagatorOf). x.vars) e.core)
     (p.slots ∙ ap (λ (x : PropagatorOf). x.slots ++ Some mid.analysis.clause.items ∷ []) e.core ∙ ap (λ (x : Analysis). s.core.slots ++ Some x.clause.items ∷ []) e.analysis)
-    (p.given ∙ e.given) (p.frozen ∙ e.frozen) (p.conflicts ∙ ap (λ z. z + 1) e.conflicts) (p.deletions ∙ e.deletions) (p.wanted ∙ ap (λ (x : IdsOf). x.wanted) e.ids) named
+    (p.frozen ∙ e.frozen) (p.conflicts ∙ ap (λ z. z + 1) e.conflicts) (p.deletions ∙ e.deletions) (p.wanted ∙ ap (λ (x : IdsOf). x.wanted) e.ids) named
 
 pub returns-clause-conflicts : goal.returns-clause-conflicts
 returns-clause-conflicts g c = let e = c.in_ok-find_hints.ensures in let p = c.in_ok-add_learnt.ensures in p.conflicts ∙ ap (λ z. z + 1) e.conflicts
+
+pub returns-clause-vars : goal.returns-clause-vars
+returns-clause-vars g c = let e = c.in_ok-find_hints.ensures in let p = c.in_ok-add_learnt.ensures in p.vars ∙ ap (λ (x : PropagatorOf). x.vars) e.core
+
+pub returns-clause-slots : goal.returns-clause-slots
+returns-clause-slots g c =
+    let s = c.args.self.now in
+    let e = c.in_ok-find_hints.ensures in
+    let p = c.in_ok-add_learnt.ensures in
+    p.slots ∙ ap (λ (x : PropagatorOf). x.slots ++ Some c.find_hints.new.self.analysis.clause.items ∷ []) e.core ∙ ap (λ (x : Analysis). s.core.slots ++ Some x.clause.items ∷ []) e.analysis
+
+pub add_learnt-requires-clause-placed : goal.add_learnt-requires-clause-placed
+add_learnt-requires-clause-placed g c =
+    let s = c.args.self.now in
+    let e = c.in_ok-find_hints.ensures in
+    subst (λ (x : PropagatorOf). IsPlaced x c.find_hints.new.self.analysis.clause.items c.args.first) (sym e.core) (subst (λ (x : Analysis). IsPlaced s.core x.clause.items c.args.first) (sym e.analysis) c.requires.placed)

@@ -10,7 +10,7 @@ returns-then-conflict-clause-moves c =
     let e = c.in_ok-restart.ensures in
     let t = c.in_ok-thaw_unsettled.ensures in
     let mid : Solver = record s { core = c.restart.new.core; order = c.restart.new.order; pending = None } in
-    moves_both s mid c.thaw_unsettled.new.self (moves_same s mid e.vars e.slots refl refl refl refl refl) t.moves
+    moves_both s mid c.thaw_unsettled.new.self (moves_same s mid e.vars e.slots refl refl refl refl) t.moves
 
 pub returns-clause-moves : goal.returns-clause-moves
 returns-clause-moves c =
@@ -18,4 +18,4 @@ returns-clause-moves c =
     let e = c.in_ok-restart.ensures in
     let t = c.in_ok-thaw_unsettled.ensures in
     let mid : Solver = record s { core = c.restart.new.core; order = c.restart.new.order; pending = None } in
-    moves_both s mid c.thaw_unsettled.new.self (moves_same s mid e.vars e.slots refl refl refl refl refl) t.moves
+    moves_both s mid c.thaw_unsettled.new.self (moves_same s mid e.vars e.slots refl refl refl refl) t.moves

@@ -52,8 +52,8 @@ returns-clause-reduces g c =
     let less = deletes_at p.trail p.slots c.args.k cl (f.fixpoint t.conflict) e.there (i.untrue c.if-not-is_loose.false) in
     let new : Solver = record s { core = q; deletions = s.deletions + 1 } in
     record {
-      leads = leads_deleted g.L.Log.takes g.L.Log.faults s new c.args.k cl id a b e.there c.requires.learnt fix (i.untrue c.if-not-is_loose.false) proper c.requires.few c.watched-id.ensures (c.is_writable.ensures c.if-not-is_writable.false) taken later
-          (ap (λ (x : PropagatorOf). x.vars) o) (ap (λ (x : PropagatorOf). x.slots) o) refl refl refl refl refl;
+      leads = leads_deleted g.L.Log.takes g.L.Log.faults s new c.args.k cl id a b e.there fix (i.untrue c.if-not-is_loose.false) proper c.requires.few c.watched-id.ensures (c.is_writable.ensures c.if-not-is_writable.false) taken later
+          (ap (λ (x : PropagatorOf). x.vars) o) (ap (λ (x : PropagatorOf). x.slots) o) refl refl refl refl;
       solver = record {
         frozen = r.frozen ∙ sym (ap (λ (x : PropagatorOf). x.vars) o);
         unmarked = subst (λ (x : PropagatorOf). IsUnmarked x.vars s.analysis.seen.items s.analysis.lower.items s.analysis.current.items) (sym o) r.unmarked;

@@ -50,7 +50,7 @@ returns-clause-reduces g c =
     let later : g.L.Log.faults a ≤ g.L.Log.faults b = search rules in
     let new : Solver = record s { frozen = c.remove_clause.new.self; deletions = s.deletions + 1 } in
     record {
-      leads = leads_deleted_frozen g.L.Log.takes g.L.Log.faults s new c.args.k cl id a b e.there fix (i.untrue c.if-not-is_loose.false) proper (c.may_delete.ensures c.if-not-may_delete.false) c.frozen-id.ensures (c.is_writable.ensures c.if-not-is_writable.false) taken later refl rest refl refl refl refl;
+      leads = leads_deleted_frozen g.L.Log.takes g.L.Log.faults s new c.args.k cl id a b e.there fix (i.untrue c.if-not-is_loose.false) proper (c.may_delete.ensures c.if-not-may_delete.false) c.frozen-id.ensures (c.is_writable.ensures c.if-not-is_writable.false) taken later refl rest refl refl refl;
       solver = record { frozen = ap (λ (y : FrozenOf). y.vars) o ∙ r.frozen; unmarked = r.unmarked; justified = r.justified; pending = r.pending };
       rest = record {
         level = t.level;

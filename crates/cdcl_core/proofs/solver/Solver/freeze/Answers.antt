@@ -56,5 +56,5 @@ returns-clause-moves c =
     let push = c.in_ok-push.ensures in
     let new : Solver = record s { core = c.remove_clause.new.self; frozen = c.push.new.self; ids = c.freeze.new.self } in
     let z = c.in_ok-freeze.ensures in
-    moves_freeze s new c.args.k c.in-Some.clause.now e.there c.requires.learnt (ap (λ (x : PropagatorOf). x.vars) c.remove_clause.ensures) (ap (λ (x : PropagatorOf). x.slots) c.remove_clause.ensures) refl (ap (λ (y : FrozenOf). y.slots) push.ok) refl refl z.wanted
+    moves_freeze s new c.args.k c.in-Some.clause.now e.there (ap (λ (x : PropagatorOf). x.vars) c.remove_clause.ensures) (ap (λ (x : PropagatorOf). x.slots) c.remove_clause.ensures) (ap (λ (y : FrozenOf). y.slots) push.ok) refl refl z.wanted
     (named_freeze_by s new c.args.k c.in-Some.clause.now e.there (ap (λ (x : PropagatorOf). x.slots) c.remove_clause.ensures) (ap (λ (y : FrozenOf). y.slots) push.ok) z.wanted z.last z.named)

@@ -3,8 +3,8 @@ use Rattle.std.specs.Prelude.{Contains, ◌<◌}
 use Rattle.cnf_form.specs.Cnf.{LitOf}
 use Rattle.unit_propagation.specs.Propagator.{PropagatorOf, clauses_of, slot_at}
 use Rattle.frozen_clauses.specs.Frozen.{FrozenOf}
-use Rattle.cdcl_core.specs.Levels.{IsJustified, IsPending}
-use Rattle.cdcl_core.specs.Analysis.{IsUnmarked}
+use Rattle.cdcl_core.specs.Levels.{IsJustified, IsPending, base_of}
+use Rattle.cdcl_core.specs.Analysis.{IsLearnt, IsUnmarked}
 use Rattle.cdcl_core.specs.Searching.{IsAddable, Moves}
 use Rattle.cdcl_core.specs.declared.solver.Solver.{Solver}
 use Rattle.cdcl_core.proofs.Steps.{moves_same, moves_both, leads_moves, leads_both, new_both}
@@ -32,7 +32,7 @@ returns-in-Some-clause-fits g c =
     let s = c.analyze.new.self in
     let z = c.subset_of.new.self in
     let mid : Solver = record s { frozen = z; learnts = c.use_all.new.self; restarts = c.use_all.new.restarts } in
-    let first : Moves old mid = moves_same old mid (ap (λ (p : PropagatorOf). p.vars) e.core) (ap (λ (p : PropagatorOf). p.slots) e.core) e.given (n.same ∙ e.frozen) e.conflicts e.deletions e.ids in
+    let first : Moves old mid = moves_same old mid (ap (λ (p : PropagatorOf). p.vars) e.core) (ap (λ (p : PropagatorOf). p.slots) e.core) (n.same ∙ e.frozen) e.conflicts e.deletions e.ids in
     let all : Moves old c.back_and_thaw.new.self = moves_both old mid c.back_and_thaw.new.self first t.moves in
     let w = n.some in
     let same : z ≡ old.frozen = n.same ∙ e.frozen in
@@ -69,7 +69,14 @@ returns-clause-fits g c =
     let t = c.in_ok-add.ensures in
     let s = c.analyze.new.self in
     let mid : Solver = record s { frozen = c.subset_of.new.self; learnts = c.use_all.new.self; restarts = c.use_all.new.restarts } in
-    let first : Moves old mid = moves_same old mid (ap (λ (p : PropagatorOf). p.vars) e.core) (ap (λ (p : PropagatorOf). p.slots) e.core) e.given (n.same ∙ e.frozen) e.conflicts e.deletions e.ids in (
+    let first : Moves old mid = moves_same old mid (ap (λ (p : PropagatorOf). p.vars) e.core) (ap (λ (p : PropagatorOf). p.slots) e.core) (n.same ∙ e.frozen) e.conflicts e.deletions e.ids in (
       leads_both g.L.Log.takes g.L.Log.faults old mid c.add.new.self c.args.log.now c.args.log.now c.add.new.log (leads_moves g.L.Log.takes g.L.Log.faults old mid c.args.log.now first) t.leads,
       t.conflicts ∙ ap (λ z. z + 1) e.conflicts,
     )
+
+pub add-requires-clause-placed : goal.add-requires-clause-placed
+add-requires-clause-placed g c =
+    let e = c.in_ok-first.ensures in
+    let cl = c.analyze.new.self.analysis.clause.items in
+    let first = c.in_ok-first.first in
+    (subst (λ (p : PropagatorOf). 0 < length p.limits) (sym e.core) c.requires.levels, subst (λ p. IsLearnt p (base_of p) cl first) (sym e.core) e.learnt)

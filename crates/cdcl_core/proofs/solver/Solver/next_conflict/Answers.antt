@@ -1,6 +1,6 @@
 use Rattle.std.proofs.Common.{arith, subst}
 use Rattle.std.proofs.lemmas.Result.{err_from_is_err_and}
-use Rattle.cdcl_core.specs.Searching.{StepFits}
+use Rattle.cdcl_core.specs.Searching.{IsRight, StepFits}
 use Rattle.cdcl_core.specs.declared.solver.Step.TheVariants.{Answered, Learnt, Thawed}
 use Rattle.cdcl_core.proofs.Steps.{step_later, stops_later}
 use Rattle.cdcl_core.proofs.solver.Solver.next_conflict.Goals as goal
@@ -33,3 +33,6 @@ loop-solved-preserved g c =
     let fits = subst (StepFits g.L.Log.takes g.L.Log.fails g.L.Log.faults c.loop-solved.self c.step.new.self c.loop-solved.log c.step.new.log) c.in-Thawed.is t.fits in
     let w = step_later g.L.Log.takes g.L.Log.faults g.L.Log.fails c.args.self.now c.loop-solved.self c.step.new.self c.args.log.now c.loop-solved.log c.step.new.log Thawed i.leads i.conflicts i.few fits in
     record { solver = t.solver; leads = w.0; conflicts = w.1; few = (let h = w.2 in omega (arith, h)) }
+
+pub returns-in-Answered-clause-right : goal.returns-in-Answered-clause-right
+returns-in-Answered-clause-right g c = let t = c.in_ok-solved.ensures in subst (IsRight c.args.formula.now) c.in-Answered.is t.right

@@ -51,4 +51,4 @@ returns-clause-leads g c =
     let later : g.L.Log.faults a ≤ g.L.Log.faults b = search rules in
     let w = c.set_fact.ensures in
     let new : Solver = record s { chain = c.follow.new.self; ids = c.set_fact.new.self } in
-    leads_noted g.L.Log.takes g.L.Log.faults s new l id hints a b fits few by taken later refl refl refl refl refl w.wanted (named_fact_by s new l id hints refl refl w.wanted w.last i.above w.named)
+    leads_noted g.L.Log.takes g.L.Log.faults s new l id hints a b fits few by taken later refl refl refl refl w.wanted (named_fact_by s new l id hints refl refl w.wanted w.last i.above w.named)

@@ -9,13 +9,12 @@ loop-place-init g c =
     let s = c.args.self.now in
     record {
       core = refl;
-      given = refl;
       frozen = refl;
       pending = refl;
       conflicts = refl;
       deletions = refl;
       analysis = refl;
-      leads = leads_moves g.L.Log.takes g.L.Log.faults s s c.args.log.now (moves_same s s refl refl refl refl refl refl refl);
+      leads = leads_moves g.L.Log.takes g.L.Log.faults s s c.args.log.now (moves_same s s refl refl refl refl refl refl);
     }
 
 pub note_fact-requires-clause-solver : goal.note_fact-requires-clause-solver
@@ -27,7 +26,6 @@ loop-place-preserved g c =
     let e = c.in_ok-note_fact.ensures in
     record {
       core = e.core ∙ i.core;
-      given = e.given ∙ i.given;
       frozen = e.frozen ∙ i.frozen;
       pending = e.pending ∙ i.pending;
       conflicts = e.conflicts ∙ i.conflicts;
@@ -49,4 +47,4 @@ returns-clause-leads g c =
     let a = c.loop-place.log in
     let t = c.loop-place.self in
     let new : Solver = record t { noted = c.fixed_count-count.result } in
-    leads_both g.L.Log.takes g.L.Log.faults c.args.self.now t new c.args.log.now a a i.leads (leads_moves g.L.Log.takes g.L.Log.faults t new a (moves_same t new refl refl refl refl refl refl refl))
+    leads_both g.L.Log.takes g.L.Log.faults c.args.self.now t new c.args.log.now a a i.leads (leads_moves g.L.Log.takes g.L.Log.faults t new a (moves_same t new refl refl refl refl refl refl))

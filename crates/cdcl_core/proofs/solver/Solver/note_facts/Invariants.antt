@@ -5,7 +5,6 @@ use Rattle.cdcl_core.proofs.solver.Solver.note_facts.Given as goal
 abbrev pub invariant-loop-place : goal.invariant-loop-place
 invariant-loop-place g l = record {
   core : l.self.core ≡ l.fn.self.core;
-  given : l.self.given ≡ l.fn.self.given;
   frozen : l.self.frozen ≡ l.fn.self.frozen;
   pending : l.self.pending ≡ l.fn.self.pending;
   conflicts : l.self.conflicts ≡ l.fn.self.conflicts;

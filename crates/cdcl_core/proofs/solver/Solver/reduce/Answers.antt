@@ -1,21 +1,9 @@
-use Rattle.std.proofs.Common.{◌≡◌, ◌∙◌, ap, rules, subst, sym}
+use Rattle.std.proofs.Common.{◌∙◌, rules}
 use Rattle.std.proofs.lemmas.Result.{err_from_is_err_and}
-use Rattle.unit_propagation.specs.Propagation.{IsFixpoint}
-use Rattle.unit_propagation.specs.Propagator.{PropagatorOf, clauses_of}
-use Rattle.frozen_clauses.specs.Frozen.{FrozenOf}
 use Rattle.cdcl_core.specs.Searching.{IsAtRest}
-use Rattle.cdcl_core.specs.declared.solver.Solver.{Solver}
 use Rattle.cdcl_core.specs.declared.stop.Stop.TheVariants.{OutOfMemory}
-use Rattle.cdcl_core.proofs.Steps.{leads_moves, leads_both, moves_both, stops_moves, stops_later, stops_now}
+use Rattle.cdcl_core.proofs.Steps.{leads_moves, leads_both, moves_both, rest_same, stops_moves, stops_later, stops_now}
 use Rattle.cdcl_core.proofs.solver.Solver.reduce.Goals as goal
-
--- the clauses are the same
-rest_same : (old new : Solver) → new.core ≡ old.core → new.frozen ≡ old.frozen → IsAtRest old → IsAtRest new
-rest_same old new p z w = record {
-  level = ap (λ (x : PropagatorOf). x.limits) p ∙ w.level;
-  conflict = ap (λ (x : PropagatorOf). x.conflict) p ∙ w.conflict;
-  settled = subst (λ (x : PropagatorOf). IsFixpoint x.trail (clauses_of new.frozen.slots)) (sym p) (subst (λ (x : FrozenOf). IsFixpoint old.core.trail (clauses_of x.slots)) (sym z) w.settled);
-}
 
 pub returns-then-not-branch-clause-leads : goal.returns-then-not-branch-clause-leads
 returns-then-not-branch-clause-leads g c =

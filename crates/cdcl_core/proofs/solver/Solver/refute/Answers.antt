@@ -1,9 +1,10 @@
 use Rattle.std.proofs.Common.{◌≤◌, [], length, subst, sym, arith}
-use Rattle.std.proofs.lemmas.Result.{IfOk-weaker, IfErr-weaker}
+use Rattle.std.proofs.lemmas.Result.{on_ok_weaker, IfErr-weaker}
 use Rattle.cnf_form.specs.Cnf.{IsAdmitted}
 use Rattle.unit_propagation.specs.Propagator.{PropagatorOf, clauses_of}
 use Rattle.frozen_clauses.specs.Frozen.{FrozenOf}
-use Rattle.cdcl_core.specs.Searching.{StepFits, Stops}
+use Rattle.cdcl_core.specs.Searching.{Stops}
+use Rattle.cdcl_core.specs.declared.solver.Solved.TheVariants.{Unsat}
 use Rattle.cdcl_core.specs.declared.solver.Step.TheVariants.{Answered}
 use Rattle.cdcl_core.proofs.Steps.{step_later, stops_later}
 use Rattle.cdcl_core.proofs.solver.Solver.refute.Goals as goal
@@ -21,8 +22,7 @@ returns-clause-fits g c =
     let m = c.note_facts.new.log in
     let e = c.in_ok-note_facts.ensures in
     let few : length (clauses_of t.frozen.slots) ≤ length (clauses_of s.frozen.slots) = subst (λ (z : FrozenOf). length (clauses_of z.slots) ≤ length (clauses_of s.frozen.slots)) (sym e.frozen) (omega arith) in
-    IfOk-weaker c.end_empty.result (λ o. StepFits g.L.Log.takes g.L.Log.fails g.L.Log.faults t c.end_empty.new.self m c.end_empty.new.log (Answered o)) (λ o. StepFits g.L.Log.takes g.L.Log.fails g.L.Log.faults s c.end_empty.new.self a c.end_empty.new.log (Answered o))
-    (λ o w. step_later g.L.Log.takes g.L.Log.faults g.L.Log.fails s t c.end_empty.new.self a m c.end_empty.new.log (Answered o) e.leads e.conflicts few w) c.end_empty.ensures.fits
+    on_ok_weaker c.end_empty.result (λ w. step_later g.L.Log.takes g.L.Log.faults g.L.Log.fails s t c.end_empty.new.self a m c.end_empty.new.log (Answered Unsat) e.leads e.conflicts few w) c.end_empty.ensures.fits
 
 pub returns-clause-stopped : goal.returns-clause-stopped
 returns-clause-stopped g c =

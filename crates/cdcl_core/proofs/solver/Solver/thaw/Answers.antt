@@ -15,7 +15,7 @@ returns-clause-moves c =
     let rest : c.remove_clause.new.self.slots ≡ set s.frozen.slots c.args.k None = ap (λ (y : FrozenOf). y.slots) c.remove_clause.ensures in
     let new : Solver = record s { core = c.add_at_root.new.core; frozen = c.remove_clause.new.self; learnts = c.push_thawed.new.self; ids = c.thaw.new.self } in
     let z = c.in_ok-thaw.ensures in
-    moves_thaw s new c.args.k c.in-Some.clause.now f.there e.vars e.slots refl rest refl refl z.wanted (named_thaw_by s new c.args.k c.in-Some.clause.now f.there e.slots rest z.wanted z.last z.named)
+    moves_thaw s new c.args.k c.in-Some.clause.now f.there e.vars e.slots rest refl refl z.wanted (named_thaw_by s new c.args.k c.in-Some.clause.now f.there e.slots rest z.wanted z.last z.named)
 
 pub returns-clause-few : goal.returns-clause-few
 returns-clause-few c =

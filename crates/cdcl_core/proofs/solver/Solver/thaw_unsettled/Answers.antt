@@ -6,7 +6,7 @@ pub loop-k-init : goal.loop-k-init
 loop-k-init c =
     let s = c.args.self.now in
     let r = c.requires in
-    record { solver = r.solver; count = refl; level = r.level; none = r.none; moves = moves_same s s refl refl refl refl refl refl refl; few = omega arith }
+    record { solver = r.solver; count = refl; level = r.level; none = r.none; moves = moves_same s s refl refl refl refl refl refl; few = omega arith }
 
 pub loop-k-preserved : goal.loop-k-preserved
 loop-k-preserved c =

@@ -10,4 +10,4 @@ returns-in_ok-collect-clause-moves c =
     let z = c.in_ok-collect_frozen.ensures in
     let slots = ap (λ (z : FrozenOf). z.slots) c.in_ok-collect.ensures.ok in
     let new : Solver = record s { frozen = c.collect.new.self; ids = c.collect_frozen.new.self } in
-    moves_collect_frozen s new refl slots refl refl refl z.wanted (named_collect_frozen_by s new refl slots z.wanted z.last z.named)
+    moves_collect_frozen s new refl slots refl refl z.wanted (named_collect_frozen_by s new refl slots z.wanted z.last z.named)
