@@ -31,7 +31,7 @@ fn put_text(alloc: Global, problem: &Problem, job: JobName) -> Result<Vec<u8>, A
     let mut text = file.text();
     let mut bytes = Vec::new(alloc);
     let mut buffer = vec![in alloc; 0u8; PIECE]?;
-    for _ in 0..1000u32 {
+    for _ in 0..1_000_000u32 {
         let count = text.next(&mut buffer);
         if count == 0 {
             break;
